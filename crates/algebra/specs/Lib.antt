@@ -1,0 +1,9 @@
+pub mod Sum
+pub mod Modulo
+pub mod Prime
+pub mod Vector
+pub mod Polynomial
+pub mod Multiset
+pub mod Shuffle
+pub mod Hash
+pub mod Statements

@@ -1,0 +1,4 @@
+pub mod Fold
+pub mod Width
+pub mod Reduction
+pub mod Factor
