@@ -1,0 +1,160 @@
+-- The products of document 01 are those of the algebra, over a code of triples as vectors of length 3 and of a challenge as the vector
+-- r ∷ a ∷ b ∷ c. So its bounds hold of the challenges at which a shuffle balances, or at which two hashes are equal.
+-- Assumes nothing.
+use Prim.Native.Nat.{ℕ, _*_, _^_, _≤_, _<_}
+use mathlib.Core.Path.{_≡_, refl, sym, _∙_, ap, ap₂, subst, fun-ext}
+use mathlib.Core.Logic.{_⊎_, inl, inr, _≢_}
+use mathlib.Core.Bool.{Bool, true, false, true≢false}
+use mathlib.Core.List.{List, [], _∷_, List-discrete}
+use native.Mathlib.Nat.{le-trans, le-of-eq, mul-comm, mul-le-mul-right, mod-eq-of-lt}
+use native.Mathlib.Decide.{ℕ-discrete}
+use native.Mathlib.Omega.{arith}
+use lib.Dec.{eqb}
+use lib.ListN.{length, getD}
+use borrow.Author.Tests.{eq-eqb}
+use Rattle.algebra.specs.Sum.{sum, bit, count, sums, counts}
+use Rattle.algebra.specs.Modulo.{minus, times}
+use Rattle.algebra.specs.Prime.{Prime}
+use Rattle.algebra.specs.Vector.{inner, remainders, Below}
+use Rattle.algebra.specs.Multiset.{EquallyOften}
+use Rattle.algebra.specs.Hash.{hash}
+use Rattle.algebra.specs.Shuffle as Algebra
+use Rattle.algebra.specs.Shuffle.{Code, Reduced, balances}
+use Rattle.algebra.proofs.Sum.{sum-monotone, sum-scale, sums-constant}
+use Rattle.algebra.proofs.Shuffle.{shuffle-bound}
+use Rattle.algebra.proofs.Honest.{equal-products}
+use Rattle.algebra.proofs.Hash.{hash-bound}
+use Rattle.memory.specs.declared.Challenge.{Challenge}
+use Rattle.memory.specs.Equations.{Triple, triple, factor, product, balanced}
+use Rattle.memory.specs.Bound.{challenge, challenges}
+
+-- a triple as a vector
+unfoldable pub entries : Triple → List ℕ
+entries t = t .x ∷ t .y ∷ t .z ∷ []
+
+-- the triple of a vector
+entriesBack : List ℕ → Triple
+entriesBack v = triple (getD v 0 0) (getD v 1 0) (getD v 2 0)
+
+-- different triples have different vectors
+tripleCode : Code Triple 3
+unfolding entries entriesBack triple
+tripleCode = record { vector = entries; back = entriesBack; left = λ t. refl; width = λ t. refl }
+
+-- a challenge as a vector
+unfoldable pub elements : Challenge → List ℕ
+elements ch = ch .r ∷ ch .a ∷ ch .b ∷ ch .c ∷ []
+
+-- the factor and the product of the algebra
+factor-of-entries : (q : ℕ) (ch : Challenge) (t : Triple) → factor q ch t ≡ Algebra.factor q (elements ch) (entries t)
+unfolding factor entries elements Algebra.factor inner
+factor-of-entries q ch t = ap (minus q (ch .r)) (omega arith)
+
+product-of-entries : (q : ℕ) (ch : Challenge) (ts : List Triple) → product q ch ts ≡ Algebra.product q entries (elements ch) ts
+unfolding product Algebra.product
+product-of-entries q ch [] = refl
+product-of-entries q ch (t ∷ ts) = ap₂ (times q) (factor-of-entries q ch t) (product-of-entries q ch ts)
+
+balanced-of-entries : (q : ℕ) (ch : Challenge) (ts us : List Triple) → balanced q ch ts us ≡ balances q entries (elements ch) ts us
+unfolding balanced balances
+balanced-of-entries q ch ts us = ap₂ eqb (product-of-entries q ch ts) (product-of-entries q ch us)
+
+-- lists that hold the same triples equally often balance at every challenge
+pub often-balances : (q : ℕ) (ch : Challenge) (ts us : List Triple) → EquallyOften ts us → balanced q ch ts us ≡ true
+unfolding balanced tripleCode
+often-balances q ch ts us often =
+    eq-eqb _ _
+    (product-of-entries q ch ts
+    ∙ (equal-products Triple q 3 tripleCode ts us (elements ch) often ∙ sym (product-of-entries q ch us)))
+
+-- a test that passes wherever another does is passed by no fewer challenges
+bit-implied : (x y : Bool) → (x ≡ true → y ≡ true) → bit x ≤ bit y
+unfolding bit
+bit-implied true true h = omega arith
+bit-implied true false h = absurd (true≢false (sym (h refl)))
+bit-implied false true h = omega arith
+bit-implied false false h = omega arith
+
+pub challenges-monotone :
+    (q : ℕ) (f g : Challenge → Bool) → ((ch : Challenge) → f ch ≡ true → g ch ≡ true) → challenges q f ≤ challenges q g
+unfolding challenges
+challenges-monotone q f g h =
+    sum-monotone q _ _ (λ r lr. sum-monotone q _ _ (λ a la. sum-monotone q _ _ (λ b lb. sum-monotone q _ _ (λ c lc.
+    bit-implied (f (challenge r a b c)) (g (challenge r a b c)) (h (challenge r a b c))))))
+
+-- a test that never passes is passed by no challenge
+pub challenges-none : (q : ℕ) (f : Challenge → Bool) → ((ch : Challenge) → f ch ≡ true → ⊥) → challenges q f ≡ 0
+unfolding challenges sums bit
+challenges-none q f never =
+    omega (arith, challenges-monotone q f (λ ch. false) (λ ch e. absurd (never ch e)), sums-constant q 4 0)
+
+-- the challenges at which a shuffle balances, counted as vectors
+balanced-challenges :
+    (q : ℕ) (ts us : List Triple)
+    → challenges q (λ ch. balanced q ch ts us) ≡ counts q 4 (λ w. balances q entries w ts us)
+unfolding challenges challenge counts sums elements
+balanced-challenges q ts us =
+    ap (sum q) (fun-ext λ r. ap (sum q) (fun-ext λ a. ap (sum q) (fun-ext λ b. ap (sum q) (fun-ext λ c.
+    ap bit (balanced-of-entries q (challenge r a b c) ts us)))))
+
+-- every entry is below q
+abbrev pub TriplesBelow : ℕ → List Triple → Type 0
+TriplesBelow q [] = Unit {0}
+TriplesBelow q (t ∷ ts) = (t .x < q) × (t .y < q) × (t .z < q) × TriplesBelow q ts
+
+-- their vectors are reduced
+reduced-entries : (q : ℕ) (ts : List Triple) → TriplesBelow q ts → Reduced q entries ts
+unfolding entries
+reduced-entries q [] h = tt
+reduced-entries q (t ∷ ts) h = ((h .0, (h .1, (h .2, tt))), reduced-entries q ts (h .3))
+
+-- two lists of at most m triples: they hold the same triples equally often, or they balance at no more than m · q ^ 3 challenges
+pub balanced-bound :
+    (q m : ℕ) (ts us : List Triple)
+    → Prime q → length ts ≤ m → length us ≤ m → TriplesBelow q ts → TriplesBelow q us
+    → EquallyOften ts us ⊎ (challenges q (λ ch. balanced q ch ts us) ≤ m * q ^ 3)
+unfolding tripleCode
+balanced-bound q m ts us prime lt lu bt bu =
+    subst (λ (k : ℕ). EquallyOften ts us ⊎ (k ≤ m * q ^ 3)) (sym (balanced-challenges q ts us))
+    (shuffle-bound Triple q 3 m tripleCode ts us prime lt lu (reduced-entries q ts bt) (reduced-entries q us bu))
+
+-- a test of r alone
+challenges-of-first : (q : ℕ) (f : ℕ → Bool) → challenges q (λ ch. f (ch .r)) ≡ q ^ 3 * count q f
+unfolding challenges challenge count sums
+challenges-of-first q f =
+    ap (sum q) (fun-ext λ r. sums-constant q 3 (bit (f r)) ∙ mul-comm (bit (f r)) (q ^ 3))
+    ∙ sum-scale q (q ^ 3) (λ r. bit (f r))
+
+-- numbers below q are their remainders
+remainders-below : (q : ℕ) (xs : List ℕ) → Below q xs → remainders q xs ≡ xs
+unfolding remainders
+remainders-below q [] h = refl
+remainders-below q (x ∷ xs) h = ap₂ (λ (y : ℕ) (ys : List ℕ). y ∷ ys) (mod-eq-of-lt (h .0)) (remainders-below q xs (h .1))
+
+-- lists of numbers below q that are not equal: the algebra's bound
+different-hashes-bound :
+    (q e : ℕ) (xs ys : List ℕ)
+    → Prime q → length xs ≡ e → length ys ≡ e → Below q xs → Below q ys → xs ≢ ys
+    → challenges q (λ ch. eqb (hash q (ch .r) xs) (hash q (ch .r) ys)) ≤ e * q ^ 3
+different-hashes-bound q e [] [] prime lx ly bx by differ = absurd (differ refl)
+different-hashes-bound q e [] (y ∷ ys) prime lx ly bx by differ = absurd (omega arith)
+different-hashes-bound q e (x ∷ xs) [] prime lx ly bx by differ = absurd (omega arith)
+different-hashes-bound q e (x ∷ xs) (y ∷ ys) prime lx ly bx by differ =
+    let test : ℕ → Bool = λ r. eqb (hash q r (x ∷ xs)) (hash q r (y ∷ ys)) in
+    let few : count q test ≤ length xs =
+    hash-bound q (length xs) (x ∷ xs) (y ∷ ys) prime refl (omega arith)
+    (λ same. differ (sym (remainders-below q (x ∷ xs) bx) ∙ (same ∙ remainders-below q (y ∷ ys) by)))
+    in
+    le-trans (le-of-eq (challenges-of-first q test ∙ mul-comm (q ^ 3) (count q test)))
+    (mul-le-mul-right (q ^ 3) (omega arith))
+
+-- two lists of e numbers below q are equal, or their hashes are equal at no more than e · q ^ 3 challenges
+pub hashes-bound :
+    (q e : ℕ) (xs ys : List ℕ)
+    → Prime q → length xs ≡ e → length ys ≡ e → Below q xs → Below q ys
+    → (xs ≡ ys) ⊎ (challenges q (λ ch. eqb (hash q (ch .r) xs) (hash q (ch .r) ys)) ≤ e * q ^ 3)
+hashes-bound q e xs ys prime lx ly bx by =
+    elim (List-discrete ℕ-discrete xs ys) [
+      | yes same ↦ inl same
+      | no differ ↦ inr (different-hashes-bound q e xs ys prime lx ly bx by differ)
+    ]

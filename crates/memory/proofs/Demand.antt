@@ -1,0 +1,157 @@
+-- Demand 3 of document 01: for any prime that has room for the size and the count, and for p. What no challenge accepts, and the bound on the
+-- challenges that accept a wrong trace, are shown here; that a right trace with the filler's advice is accepted is honest-clause.
+-- Assumes nothing.
+use Prim.Native.Nat.{ℕ, _+_, _*_, _^_, _≤_, _<_}
+use mathlib.Core.Path.{_≡_, refl, sym, _∙_}
+use mathlib.Core.Logic.{inl, inr}
+use mathlib.Core.Bool.{Bool, true, false, _&&_, _||_, not, cond, true≢false}
+use mathlib.Core.List.{List, [], _∷_}
+use native.Mathlib.Decide.{ℕ-discrete}
+use native.Mathlib.Omega.{arith}
+use lib.Dec.{leb, ltb}
+use borrow.Author.Tests.{eqb-true, leb-true}
+use Rattle.algebra.specs.Prime.{Prime}
+use Rattle.algebra.proofs.Mersenne.{prime-p}
+use Rattle.field.specs.Field.{p}
+use Rattle.memory.specs.declared.Memory.{Memory}
+use Rattle.memory.specs.declared.Memory.the-variants.{Ram, Rom, Set, Stack, Queue}
+use Rattle.memory.specs.declared.Challenge.{Challenge}
+use Rattle.memory.specs.Bytes.{Line, allBelow}
+use Rattle.memory.specs.Rows.{limit, sized, allowed}
+use Rattle.memory.specs.File.{firstFault, parseRows, valuesFault}
+use Rattle.memory.specs.Plain.{right}
+use Rattle.memory.specs.Bound.{accepts, challenges, malformed, degree, rowsIn, traceIn, Advised}
+use Rattle.memory.specs.Statements.{Holds, Demand, DemandAt, DemandThree}
+use Rattle.memory.proofs.Balance.{challenges-none}
+use Rattle.memory.proofs.ReadRows.{both-pass, chosen-zero, lines-numbered, lines-below}
+use Rattle.memory.proofs.WellFormed.{no-fault-well-formed}
+use Rattle.memory.proofs.WrongTrace.{right-or-rare}
+use Rattle.memory.proofs.Fold.{accepts-exactly-when}
+use Rattle.memory.proofs.HonestBalances.{honest-clause}
+
+-- the first two of a list of tests
+both-tests : (a b c : Bool) → (a && (b && c)) ≡ true → (a && (b && true)) ≡ true
+both-tests true true c e = refl
+both-tests true false c e = e
+both-tests false b c e = e
+
+-- a value line without fault: size and count are below q and allowed
+values-allowed :
+    (q : ℕ) (m : Memory) (n t : ℕ) (ch : Challenge) → valuesFault q m n t ch ≡ 0
+    → (allBelow q (n ∷ t ∷ []) && allowed m n t) ≡ true
+unfolding valuesFault allBelow
+values-allowed q m n t ch e =
+    let below = chosen-zero (allBelow q (n ∷ t ∷ ch .r ∷ ch .a ∷ ch .b ∷ ch .c ∷ [])) (cond (allowed m n t) 0 4) 3 (omega arith) e in
+    let fits = chosen-zero (allowed m n t) 0 4 (omega arith) (below .1) in
+    rw (both-tests (ltb n q) (ltb t q) _ (below .0), fits .0) refl
+
+-- the equations hold of no malformed rows
+holds-not-malformed :
+    (q : ℕ) (m : Memory) (n t : ℕ) (ch : Challenge) (lines : List Line) → Holds q m n t ch lines → malformed q m n t lines ≡ false
+unfolding malformed
+holds-not-malformed q m n t ch lines holds = rw (values-allowed q m n t ch (holds .values), holds .rows) refl
+
+-- what is not malformed has an allowed size and count
+well-sized : (q : ℕ) (m : Memory) (n t : ℕ) (lines : List Line) → malformed q m n t lines ≡ false → allowed m n t ≡ true
+unfolding malformed
+well-sized q m n t lines e = go (allBelow q (n ∷ t ∷ [])) (allowed m n t) _ e
+  where
+    go : (a b c : Bool) → (not (a && b) || c) ≡ false → b ≡ true
+    go true true c e = refl
+    go true false c e = absurd (true≢false e)
+    go false b c e = absurd (true≢false e)
+
+-- a size that is allowed is at most the limit
+sized-limit : (m : Memory) (n : ℕ) → sized m n ≡ true → n ≤ limit
+unfolding sized limit
+sized-limit Ram n e = leb-true n limit e
+sized-limit Rom n e = leb-true n limit e
+sized-limit Set n e = leb-true n limit e
+sized-limit Stack n e = omega (arith, eqb-true n 0 e)
+sized-limit Queue n e = omega (arith, eqb-true n 0 e)
+
+-- what is allowed is at most the limit
+allowed-sized : (m : Memory) (n t : ℕ) → allowed m n t ≡ true → (sized m n ≡ true) × (t ≤ limit)
+unfolding allowed
+allowed-sized m n t e = let parts = both-pass (sized m n) (leb t limit) e in (parts .0, leb-true t limit (parts .1))
+
+-- twice a bound
+doubled : (x m k : ℕ) → x ≤ m * k → x ≤ 2 * m * k
+doubled x m k h = omega arith
+
+-- a statement that a test decides
+by-test : {A : Type 0} (b : Bool) → (b ≡ true → A) → (b ≡ false → A) → A
+by-test true passes fails = passes refl
+by-test false passes fails = fails refl
+
+-- incomplete or malformed rows are accepted by no challenge
+pub malformed-not-accepted :
+    (q : ℕ) (m : Memory) (n t : ℕ) (lines : List Line) → 2 ≤ q → malformed q m n t lines ≡ true
+    → (ch : Challenge) → accepts q m n t lines ch ≡ false
+malformed-not-accepted q m n t lines two bad ch =
+    by-test (accepts q m n t lines ch)
+    (λ accepted.
+    let holds = accepts-exactly-when q m n t ch lines two .0 accepted in
+    absurd (true≢false (sym bad ∙ holds-not-malformed q m n t ch lines holds)))
+    (λ refused. refused)
+
+-- a wrong trace is accepted by at most m · q ^ 3 challenges, whatever the advice
+pub wrong-trace-bound :
+    (q : ℕ) (m : Memory) (n t : ℕ) (lines : List Line) → Prime q → 2 * t ≤ q → t + 1 < q → n ≤ q
+    → malformed q m n t lines ≡ false → right (traceIn q m n t lines) ≡ false
+    → challenges q (accepts q m n t lines) ≤ degree m n t (rowsIn q lines) * q ^ 3
+unfolding traceIn rowsIn
+wrong-trace-bound q m n t lines prime wide room small good wrong = go (ℕ-discrete (firstFault q m n t [] (parseRows q lines) .number) 0)
+  where
+    holds : (ch : Challenge) → accepts q m n t lines ch ≡ true → Holds q m n t ch lines
+    holds ch = accepts-exactly-when q m n t ch lines (prime .two) .0
+
+    go :
+        Dec (firstFault q m n t [] (parseRows q lines) .number ≡ 0)
+        → challenges q (accepts q m n t lines) ≤ degree m n t (rowsIn q lines) * q ^ 3
+    go (no fault) = omega (arith, challenges-none q (accepts q m n t lines) (λ ch accepted. fault (holds ch accepted .rows)))
+    go (yes e) =
+        elim
+        (right-or-rare q m n t (rowsIn q lines) (accepts q m n t lines) prime wide room small
+        (allowed-sized m n t (well-sized q m n t lines good) .0)
+        (lines-below q lines (omega (arith, prime .two)))
+        (no-fault-well-formed q m n t (parseRows q lines) (lines-numbered q lines) e)
+        (λ ch accepted. (holds ch accepted .range, holds ch accepted .memory))) [
+          | inl fits ↦ absurd (true≢false (sym fits ∙ wrong))
+          | inr few ↦ few
+        ]
+
+-- Demand 3 for any prime with room
+pub demand-at : DemandAt
+demand-at q m n t lines prime wide room small = record {
+  incomplete = malformed-not-accepted q m n t lines (prime .two);
+  wrong =
+      λ good wrong. doubled (challenges q (accepts q m n t lines)) (degree m n t (rowsIn q lines)) (q ^ 3)
+      (wrong-trace-bound q m n t lines prime wide room small good wrong);
+  sharp = wrong-trace-bound q m n t lines prime wide room small;
+  honest = honest-clause q m n t lines prime room;
+}
+
+-- rows with a size or count that is not allowed are malformed, so only the first clause says something of them
+demand-of-malformed :
+    (q : ℕ) (m : Memory) (n t : ℕ) (lines : List Line) → 2 ≤ q → allowed m n t ≡ false → Demand q m n t lines
+demand-of-malformed q m n t lines two over = record {
+  incomplete = malformed-not-accepted q m n t lines two;
+  wrong = λ good. absurd (impossible good);
+  sharp = λ good. absurd (impossible good);
+  honest = λ good. absurd (impossible good);
+}
+  where
+    impossible : malformed q m n t lines ≡ false → ⊥
+    impossible good = true≢false (sym (well-sized q m n t lines good) ∙ over)
+
+-- Demand 3
+pub demand-three : DemandThree
+unfolding p limit
+demand-three m n t lines =
+    by-test (allowed m n t)
+    (λ fine.
+    let count : t ≤ limit = allowed-sized m n t fine .1 in
+    let size : n ≤ limit = sized-limit m n (allowed-sized m n t fine .0) in
+    demand-at p m n t lines prime-p (omega arith) (omega arith) (omega arith))
+    (λ over. demand-of-malformed p m n t lines (prime-p .two) over)

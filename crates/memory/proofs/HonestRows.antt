@@ -1,0 +1,438 @@
+-- The honest prover's rows. Where the filler refuses nothing they are complete and well-formed. Where a well-formed file has a right trace, the filler refuses
+-- nothing and its rows have the same trace; so a refused run is not right.
+-- Assumes nothing.
+use Prim.Native.Nat.{ℕ, zero, suc, _+_, _≤_, _<_}
+use native.Mathlib.Omega.{arith}
+use mathlib.Core.Path.{_≡_, refl, sym, _∙_, ap, ap₂, subst}
+use mathlib.Core.Bool.{Bool, true, false, _&&_, or-true}
+use mathlib.Core.List.{List, [], _∷_, _++_, map, append-nil}
+use lib.Dec.{leb}
+use lib.ListN.{length, take, drop, length-map}
+use borrow.Author.Tests.{lt-ltb, le-ltb, ne-eqb}
+use Rattle.algebra.specs.Prime.{Prime}
+use Rattle.memory.specs.declared.Memory.{Memory}
+use Rattle.memory.specs.declared.Memory.the-variants.{Ram, Rom, Set, Stack, Queue}
+use Rattle.memory.specs.declared.Op.{Op}
+use Rattle.memory.specs.declared.Op.the-variants.{Access, Look, Member, Push, Pop, Enqueue, Dequeue}
+use Rattle.memory.specs.declared.Phase.{Phase}
+use Rattle.memory.specs.declared.Phase.the-variants.{Starting, Operating, Ending, Ranging}
+use Rattle.memory.specs.declared.Row.{Row}
+use Rattle.memory.specs.declared.Parsed.the-variants.{Sound}
+use Rattle.memory.specs.Bytes.{Line, allBelow}
+use Rattle.memory.specs.Names.{opCode, isOp}
+use Rattle.memory.specs.Rows.{raised, lowered, endsDue, rangesDue, opsDue, opIn, columns, used, empty, formed, depthProduct, sunk}
+use Rattle.memory.specs.Equations.{listsOf, fileLists}
+use Rattle.memory.specs.Plain.{Trace, Operation, start, allFit, right, operationOf, traceOf}
+use Rattle.memory.specs.Honest.{Input, inputOf, filledRow, bare, endRow, rangeRow, rangeRowsFrom, Cell, ramRow, ramEnds, romEndsFrom, setEndsFrom, stackEnds, operationsFilled, filledRows, possible}
+use Rattle.memory.specs.File.{parseRows, refusal, firstFault}
+use Rattle.memory.specs.Bound.{rowsIn, traceIn}
+use Rattle.memory.specs.Statements.{HonestRows, RefusedNotRight}
+use Rattle.memory.proofs.Operations.{Inputs, inputAt, input-cases}
+use Rattle.memory.proofs.HonestLookups.{honest, romRow, romOps, romFinal, rom-rows, length-romOps, length-romFinal, rom-right-possible, rom-right-trace, setRow, setOps, setFinal, set-rows, length-setOps, length-setFinal, set-right-possible, set-right-trace}
+use Rattle.memory.proofs.RamCells.{startCells}
+use Rattle.memory.proofs.RamComplete.{ramOps, ramFinalAges, ramOpRows, ramEndRows, ramRangeRows, ram-rows, ram-op-rows-length, ram-end-rows-length, ranges-length}
+use Rattle.memory.proofs.RamRight.{ram-right-possible, ram-right-same}
+use Rattle.memory.proofs.StackComplete.{stackRow, stackOps, stackFinalAges, stackOpRows, stackEndRows, stackRangeRows, stack-filled, stack-length, stack-not-below, stack-ends-due, stack-right-possible, stack-right-operations}
+use Rattle.memory.proofs.QueueComplete.{queueRow, queueOps, queueFinal, queueEnds, queue-filled, queue-length, queue-nonzero, queue-ends-due, queue-right-possible, queue-right-operations}
+use Rattle.memory.proofs.ReadRows.{both-pass, RowBelow, RowsBelow, lines-below, taken-below, dropped-below}
+use Rattle.memory.proofs.Phases.{DueRow, DueRows, Parts, only-op, formed-guard, due-ops, parts-inits, parts-ops, parts-lists, lines-parts, parts-no-fault}
+use Rattle.memory.proofs.FillerRows.{DueInput, DueInputs, Unrefused, unrefused-zero}
+
+-- The rows that the honest prover's rules give after the init rows: operations, end rows, range rows.
+unfoldable pub honestOps : Memory → List ℕ → List Input → List Row
+honestOps Ram values ops = ramOpRows values ops
+honestOps Rom values ops = romOps values [] ops
+honestOps Set values ops = setOps [] ops
+honestOps Stack values ops = stackOpRows ops
+honestOps Queue values ops = queueOps [] ops
+
+unfoldable pub honestEnds : Memory → List ℕ → List Input → List Row
+honestEnds Ram values ops = ramEndRows values ops
+honestEnds Rom values ops = romFinal values [] ops
+honestEnds Set values ops = setFinal values [] ops
+honestEnds Stack values ops = stackEndRows ops
+honestEnds Queue values ops = queueEnds (queueFinal [] ops)
+
+unfoldable pub honestRanges : Memory → ℕ → List ℕ → List Input → List Row
+honestRanges Ram t values ops = ramRangeRows t values ops
+honestRanges Rom t values ops = []
+honestRanges Set t values ops = []
+honestRanges Stack t values ops = stackRangeRows t ops
+honestRanges Queue t values ops = []
+
+-- what the filler writes after the init rows: they, in this order
+honest-split : (m : Memory) (t : ℕ) (values : List ℕ) (ops : List Input)
+    → operationsFilled m t values ops ≡ honestOps m values ops ++ (honestEnds m values ops ++ honestRanges m t values ops)
+unfolding operationsFilled honestOps honestEnds honestRanges
+honest-split Ram t values ops = ram-rows t values ops
+honest-split Rom t values ops = rom-rows values [] ops ∙ ap (λ (l : List Row). romOps values [] ops ++ l) (sym (append-nil (romFinal values [] ops)))
+honest-split Set t values ops = set-rows values [] ops ∙ ap (λ (l : List Row). setOps [] ops ++ l) (sym (append-nil (setFinal values [] ops)))
+honest-split Stack t values ops = stack-filled [] 1 [] t ops
+honest-split Queue t values ops = queue-filled [] ops ∙ ap (λ (l : List Row). queueOps [] ops ++ l) (sym (append-nil (queueEnds (queueFinal [] ops))))
+
+-- how many they are
+honest-ops-length : (m : Memory) (values : List ℕ) (ops : List Input) → length (honestOps m values ops) ≡ length ops
+unfolding honestOps
+honest-ops-length Ram values ops = ram-op-rows-length values ops
+honest-ops-length Rom values ops = length-romOps values [] ops
+honest-ops-length Set values ops = length-setOps [] ops
+honest-ops-length Stack values ops = stack-length [] 1 [] ops
+honest-ops-length Queue values ops = queue-length [] ops
+
+honest-ranges-length : (m : Memory) (t : ℕ) (values : List ℕ) (ops : List Input) → length (honestRanges m t values ops) ≡ rangesDue m t
+unfolding honestRanges rangesDue
+honest-ranges-length Ram t values ops = ranges-length 1 t (ramFinalAges (startCells values) 1 [] ops)
+honest-ranges-length Rom t values ops = refl
+honest-ranges-length Set t values ops = refl
+honest-ranges-length Stack t values ops = ranges-length 1 t (stackFinalAges [] 1 [] ops)
+honest-ranges-length Queue t values ops = refl
+
+-- due inputs have an op of the operations and a guard of 0 or 1
+pub due-inputs : (q : ℕ) (m : Memory) (ops : List Input) → DueInputs q m Operating ops → Inputs m ops
+due-inputs q m [] due = tt
+due-inputs q m (i ∷ is) due = (due .0 .1, (unfold bare filledRow in formed-guard m (bare i) (due .0 .2)), due-inputs q m is (due .1))
+
+-- as many end rows as are due
+honest-ends-length : (q : ℕ) (m : Memory) (values : List ℕ) (ops : List Input) → DueInputs q m Operating ops → possible m (start m values) ops ≡ true
+    → length (honestEnds m values ops) ≡ endsDue m (length values) (raised (honestOps m values ops)) (lowered (honestOps m values ops))
+unfolding honestOps honestEnds endsDue start
+honest-ends-length q Ram values ops due can = ram-end-rows-length values ops
+honest-ends-length q Rom values ops due can = length-romFinal values [] ops
+honest-ends-length q Set values ops due can = length-setFinal values [] ops
+honest-ends-length q Stack values ops due can = stack-ends-due ops (due-inputs q Stack ops due) can
+honest-ends-length q Queue values ops due can = queue-ends-due ops (due-inputs q Queue ops due) can
+
+-- they do not sink
+honest-afloat : (q t : ℕ) (m : Memory) (values : List ℕ) (ops : List Input) → Prime q → t + 1 < q → length ops ≡ t → DueInputs q m Operating ops
+    → possible m (start m values) ops ≡ true
+    → sunk q m (honestOps m values ops) ≡ false
+unfolding honestOps sunk start
+honest-afloat q t Ram values ops prime room count due can = refl
+honest-afloat q t Rom values ops prime room count due can = refl
+honest-afloat q t Set values ops prime room count due can = refl
+honest-afloat q t Stack values ops prime room count due can =
+    le-ltb (raised (stackOpRows ops)) (lowered (stackOpRows ops)) (stack-not-below ops (due-inputs q Stack ops due) can)
+honest-afloat q t Queue values ops prime room count due can =
+    ne-eqb (depthProduct q 0 0 (queueOps [] ops)) 0 (queue-nonzero q ops prime (due-inputs q Queue ops due) (omega arith) can)
+
+-- an input with the given op, and the other columns of an input
+inputOp : Op → Input → Input
+inputOp o i = record { op = o; guard = i .guard; addr = i .addr; value = i .value }
+
+-- a filled row has its form where its input has, if the columns that the op leaves unused hold 0
+abbrev Formed : Memory → Input → ℕ → ℕ → ℕ → Type 0
+Formed m i o t v = formed m (bare i) ≡ true → formed m (filledRow i o t v) ≡ true
+
+-- an access uses every column
+access-formed : (i : Input) (o t v : ℕ) → Formed Ram (inputOp Access i) o t v
+unfolding inputOp formed used columns empty bare filledRow
+access-formed i o t v h = h
+
+-- a look uses old and version
+look-formed : (i : Input) (o v : ℕ) → Formed Rom (inputOp Look i) o 0 v
+unfolding inputOp formed used columns empty bare filledRow
+look-formed i o v h = h
+
+-- a member uses version
+member-formed : (i : Input) (v : ℕ) → Formed Set (inputOp Member i) 0 0 v
+unfolding inputOp formed used columns empty bare filledRow
+member-formed i v h = h
+
+-- the op of a memory with one op for its operations
+filled-due : (q : ℕ) (m : Memory) (x : Op) (i : Input) (o t v : ℕ) → opsDue m Operating ≡ x ∷ [] → Formed m (inputOp x i) o t v → DueInput q m Operating i
+    → DueRow m Operating (filledRow i o t v)
+unfolding inputOp filledRow
+filled-due q m x i o t v only form due =
+    (due .1, subst (λ (k : Op). Formed m (inputOp k i) o t v) (sym (only-op (i .op) x (ap (opIn (i .op)) (sym only) ∙ due .1))) form (due .2))
+
+-- the operation rows of each memory
+ram-due : (q : ℕ) (cells : List Cell) (clock : ℕ) (ages : List ℕ) (ops : List Input) → DueInputs q Ram Operating ops
+    → DueRows Ram Operating (ramOps cells clock ages ops)
+unfolding ramOps ramRow opsDue
+ram-due q cells clock ages [] due = tt
+ram-due q cells clock ages (i ∷ is) due = (filled-due q Ram Access i _ _ _ refl (access-formed i _ _ _) (due .0), ram-due q _ _ _ is (due .1))
+
+rom-due : (q : ℕ) (values keys : List ℕ) (ops : List Input) → DueInputs q Rom Operating ops → DueRows Rom Operating (romOps values keys ops)
+unfolding romOps romRow honest opsDue
+rom-due q values keys [] due = tt
+rom-due q values keys (i ∷ is) due = (filled-due q Rom Look i _ _ _ refl (look-formed i _ _) (due .0), rom-due q values (i .addr ∷ keys) is (due .1))
+
+set-due : (q : ℕ) (keys : List ℕ) (ops : List Input) → DueInputs q Set Operating ops → DueRows Set Operating (setOps keys ops)
+unfolding setOps setRow honest opsDue
+set-due q keys [] due = tt
+set-due q keys (i ∷ is) due = (filled-due q Set Member i _ _ _ refl (member-formed i _) (due .0), set-due q (i .value ∷ keys) is (due .1))
+
+-- a push of a stack has no advice, a pop uses old, time and version
+stack-formed : (cells : List Cell) (clock : ℕ) (ages : List ℕ) (i : Input) → opIn (i .op) (Push ∷ Pop ∷ []) ≡ true → leb (i .guard) 1 ≡ true
+    → formed Stack (bare i) ≡ true → formed Stack (stackRow cells clock ages i) ≡ true
+unfolding inputAt formed used columns empty bare filledRow stackRow isOp opCode
+stack-formed cells clock ages i =
+    input-cases (λ (j : Input). formed Stack (bare j) ≡ true → formed Stack (stackRow cells clock ages j) ≡ true) Push Pop i (λ h. h) (λ h. h) (λ h. h) (λ h. h)
+
+stack-due : (q : ℕ) (cells : List Cell) (clock : ℕ) (ages : List ℕ) (ops : List Input) → DueInputs q Stack Operating ops
+    → DueRows Stack Operating (stackOps cells clock ages ops)
+unfolding stackOps opsDue
+stack-due q cells clock ages [] due = tt
+stack-due q cells clock ages (i ∷ is) due =
+    ((unfold stackRow filledRow in due .0 .1, stack-formed cells clock ages i (due .0 .1) (unfold bare filledRow in formed-guard Stack (bare i) (due .0 .2)) (due .0 .2)), stack-due q _ _ _ is (due .1))
+
+-- an enqueue has no advice, a dequeue uses old
+queue-formed : (content : List ℕ) (i : Input) → opIn (i .op) (Enqueue ∷ Dequeue ∷ []) ≡ true → leb (i .guard) 1 ≡ true
+    → formed Queue (bare i) ≡ true → formed Queue (queueRow content i) ≡ true
+unfolding inputAt formed used columns empty bare filledRow queueRow isOp opCode
+queue-formed content i =
+    input-cases (λ (j : Input). formed Queue (bare j) ≡ true → formed Queue (queueRow content j) ≡ true) Enqueue Dequeue i (λ h. h) (λ h. h) (λ h. h) (λ h. h)
+
+queue-due : (q : ℕ) (content : List ℕ) (ops : List Input) → DueInputs q Queue Operating ops → DueRows Queue Operating (queueOps content ops)
+unfolding queueOps opsDue
+queue-due q content [] due = tt
+queue-due q content (i ∷ is) due =
+    ((unfold queueRow filledRow in due .0 .1, queue-formed content i (due .0 .1) (unfold bare filledRow in formed-guard Queue (bare i) (due .0 .2)) (due .0 .2)), queue-due q _ is (due .1))
+
+honest-ops-due : (q : ℕ) (m : Memory) (values : List ℕ) (ops : List Input) → DueInputs q m Operating ops → DueRows m Operating (honestOps m values ops)
+unfolding honestOps
+honest-ops-due q Ram values ops due = ram-due q (startCells values) 1 [] ops due
+honest-ops-due q Rom values ops due = rom-due q values [] ops due
+honest-ops-due q Set values ops due = set-due q [] ops due
+honest-ops-due q Stack values ops due = stack-due q [] 1 [] ops due
+honest-ops-due q Queue values ops due = queue-due q [] ops due
+
+-- the end rows
+due-append : (m : Memory) (p : Phase) (xs ys : List Row) → DueRows m p xs → DueRows m p ys → DueRows m p (xs ++ ys)
+due-append m p [] ys dx dy = dy
+due-append m p (x ∷ xs) ys dx dy = (dx .0, due-append m p xs ys (dx .1) dy)
+
+ram-ends-due : (cells : List Cell) → DueRows Ram Ending (ramEnds cells)
+unfolding ramEnds endRow opsDue opIn isOp opCode formed used columns empty
+ram-ends-due [] = tt
+ram-ends-due (c ∷ cells) = ((refl, refl), ram-ends-due cells)
+
+rom-ends-due : (k : ℕ) (values keys : List ℕ) → DueRows Rom Ending (romEndsFrom k values keys)
+unfolding romEndsFrom endRow opsDue opIn isOp opCode formed used columns empty
+rom-ends-due k [] keys = tt
+rom-ends-due k (v ∷ values) keys = ((refl, refl), rom-ends-due (suc k) values keys)
+
+set-ends-due : (earlier values keys : List ℕ) → DueRows Set Ending (setEndsFrom earlier values keys)
+unfolding setEndsFrom endRow opsDue opIn isOp opCode formed used columns empty
+set-ends-due earlier [] keys = tt
+set-ends-due earlier (v ∷ values) keys = ((refl, refl), set-ends-due (v ∷ earlier) values keys)
+
+cell-end-due : (c : Cell) → DueRow Stack Ending (endRow 0 (c .content) (c .time) 0)
+unfolding endRow opsDue opIn isOp opCode formed used columns empty
+cell-end-due c = (refl, refl)
+
+stack-ends-rows-due : (cells : List Cell) → DueRows Stack Ending (stackEnds cells)
+unfolding stackEnds
+stack-ends-rows-due [] = tt
+stack-ends-rows-due (c ∷ cells) =
+    due-append Stack Ending (stackEnds cells) (endRow 0 (c .content) (c .time) 0 ∷ []) (stack-ends-rows-due cells) (cell-end-due c, tt)
+
+queue-ends-rows-due : (content : List ℕ) → DueRows Queue Ending (queueEnds content)
+unfolding queueEnds endRow opsDue opIn isOp opCode formed used columns empty
+queue-ends-rows-due [] = tt
+queue-ends-rows-due (v ∷ content) = ((refl, refl), queue-ends-rows-due content)
+
+honest-ends-due : (m : Memory) (values : List ℕ) (ops : List Input) → DueRows m Ending (honestEnds m values ops)
+unfolding honestEnds romFinal setFinal
+honest-ends-due Ram values ops = ram-ends-due _
+honest-ends-due Rom values ops = rom-ends-due 0 values _
+honest-ends-due Set values ops = set-ends-due [] values _
+honest-ends-due Stack values ops = stack-ends-rows-due _
+honest-ends-due Queue values ops = queue-ends-rows-due _
+
+-- the range rows
+range-rows-due : (m : Memory) (i t : ℕ) (ages : List ℕ) → DueRows m Ranging (rangeRowsFrom i t ages)
+unfolding rangeRowsFrom rangeRow opsDue opIn isOp opCode formed used columns empty
+range-rows-due m i zero ages = tt
+range-rows-due m i (suc t) ages = ((refl, refl), range-rows-due m (suc i) t ages)
+
+honest-ranges-due : (m : Memory) (t : ℕ) (values : List ℕ) (ops : List Input) → DueRows m Ranging (honestRanges m t values ops)
+unfolding honestRanges
+honest-ranges-due Ram t values ops = range-rows-due Ram 1 t _
+honest-ranges-due Rom t values ops = tt
+honest-ranges-due Set t values ops = tt
+honest-ranges-due Stack t values ops = range-rows-due Stack 1 t _
+honest-ranges-due Queue t values ops = tt
+
+-- the init rows
+honest-inits-due : (q : ℕ) (m : Memory) (inits : List Input) → DueInputs q m Starting inits → DueRows m Starting (map bare inits)
+honest-inits-due q m [] due = tt
+honest-inits-due q m (i ∷ is) due = ((unfold bare filledRow in due .0 .1, due .0 .2), honest-inits-due q m is (due .1))
+
+-- Where the filler refuses nothing, its rows are the rows of the four phases.
+abbrev pub valuesOf : List Input → List ℕ
+valuesOf inits = map (λ i. i .value) inits
+
+pub filled-parts : (q : ℕ) (m : Memory) (n t : ℕ) (inits ops : List Input) → Prime q → t + 1 < q → length inits ≡ n → length ops ≡ t
+    → Unrefused q m (valuesOf inits) inits ops
+    → Parts q m n t (filledRows m t inits ops)
+filled-parts q m n t inits ops prime room size count u =
+    let values = valuesOf inits in record {
+      inits = map bare inits;
+      ops = honestOps m values ops;
+      ends = honestEnds m values ops;
+      ranges = honestRanges m t values ops;
+      whole = unfold filledRows in ap (λ (l : List Row). map bare inits ++ l) (honest-split m t values ops);
+      size = length-map inits bare ∙ size;
+      count = honest-ops-length m values ops ∙ count;
+      depth =
+          honest-ends-length q m values ops (u .operating) (u .can)
+          ∙ ap (λ (k : ℕ). endsDue m k (raised (honestOps m values ops)) (lowered (honestOps m values ops))) (length-map inits (λ i. i .value) ∙ size);
+      ages = honest-ranges-length m t values ops;
+      starting = honest-inits-due q m inits (u .starting);
+      operating = honest-ops-due q m values ops (u .operating);
+      ending = honest-ends-due m values ops;
+      ranging = honest-ranges-due m t values ops;
+      afloat = honest-afloat q t m values ops prime room count (u .operating) (u .can);
+    }
+
+-- their lists
+pub filled-lists : (q : ℕ) (m : Memory) (n t : ℕ) (inits ops : List Input) → Prime q → t + 1 < q → length inits ≡ n → length ops ≡ t
+    → Unrefused q m (valuesOf inits) inits ops
+    → fileLists q m n t (filledRows m t inits ops) ≡ listsOf q m t (map bare inits) (honestOps m (valuesOf inits) ops) (honestEnds m (valuesOf inits) ops) (honestRanges m t (valuesOf inits) ops)
+unfolding filled-parts
+filled-lists q m n t inits ops prime room size count u =
+    parts-lists q m n t (filledRows m t inits ops) (filled-parts q m n t inits ops prime room size count u)
+
+-- The rows of a well-formed file, as the filler's input: each is due.
+zero-empty : (u : Bool) → empty u 0 ≡ true
+unfolding empty
+zero-empty u = or-true u
+
+-- a row has its form without its advice too
+bare-formed : (m : Memory) (row : Row) → formed m row ≡ true → formed m (bare (inputOf row)) ≡ true
+unfolding formed bare filledRow inputOf
+bare-formed m row h =
+    let u = used m (row .op) in
+    let outer = both-pass (leb (row .guard) 1 && empty (u .guard) (row .guard)) _ h in
+    let inner = both-pass (empty (u .addr) (row .addr) && empty (u .value) (row .value)) _ (outer .1) in
+    ap₂ _&&_ (outer .0) (ap₂ _&&_ (inner .0) (ap₂ _&&_ (zero-empty (u .old)) (ap₂ _&&_ (zero-empty (u .time)) (zero-empty (u .version)))))
+
+-- the numbers of a row that the filler takes are elements
+below-all : (q : ℕ) (row : Row) → RowBelow q row → allBelow q (row .guard ∷ row .addr ∷ row .value ∷ []) ≡ true
+unfolding allBelow
+below-all q row b = rw (lt-ltb (row .guard) q (b .0), lt-ltb (row .addr) q (b .1), lt-ltb (row .value) q (b .2))
+
+-- a row of a phase is a due input of it
+due-input-of : (q : ℕ) (m : Memory) (p : Phase) (row : Row) → RowBelow q row → DueRow m p row → DueInput q m p (inputOf row)
+unfolding inputOf
+due-input-of q m p row b due = (below-all q row b, due .0, bare-formed m row (due .1))
+
+due-inputs-of : (q : ℕ) (m : Memory) (p : Phase) (rows : List Row) → RowsBelow q rows → DueRows m p rows → DueInputs q m p (map inputOf rows)
+due-inputs-of q m p [] b due = tt
+due-inputs-of q m p (row ∷ rows) b due = (due-input-of q m p row (b .0) (due .0), due-inputs-of q m p rows (b .1) (due .1))
+
+-- where the trace is right, the operations are possible, and the honest rows have the same operations
+record Refilled (m : Memory) (values : List ℕ) (rows : List Row) : Type 0 where
+  can : possible m (start m values) (map inputOf rows) ≡ true
+  kept : map (operationOf m) (honestOps m values (map inputOf rows)) ≡ map (operationOf m) rows
+
+right-refilled : (m : Memory) (values : List ℕ) (rows : List Row) → DueRows m Operating rows → allFit (start m values) (map (operationOf m) rows) ≡ true
+    → Refilled m values rows
+unfolding honestOps start
+right-refilled Ram values rows due fit = record { can = ram-right-possible values rows fit; kept = ram-right-same values rows fit }
+right-refilled Rom values rows due fit = record { can = rom-right-possible values rows fit; kept = rom-right-trace values [] rows fit }
+right-refilled Set values rows due fit = record { can = set-right-possible values rows fit; kept = set-right-trace [] rows }
+right-refilled Stack values rows due fit =
+    record { can = stack-right-possible rows (due-ops Stack rows due) fit; kept = stack-right-operations rows (due-ops Stack rows due) fit }
+right-refilled Queue values rows due fit =
+    record { can = queue-right-possible rows (due-ops Queue rows due) fit; kept = queue-right-operations rows (due-ops Queue rows due) fit }
+
+-- the init values
+values-of-inputs : (rows : List Row) → valuesOf (map inputOf rows) ≡ map (λ row. row .value) rows
+unfolding inputOf
+values-of-inputs [] = refl
+values-of-inputs (row ∷ rows) = ap {B = List ℕ} (λ l. row .value ∷ l) (values-of-inputs rows)
+
+values-of-bare : (inits : List Input) → map (λ row. row .value) (map bare inits) ≡ valuesOf inits
+unfolding bare filledRow
+values-of-bare [] = refl
+values-of-bare (i ∷ is) = ap {B = List ℕ} (λ l. i .value ∷ l) (values-of-bare is)
+
+-- the init rows and operations of a well-formed file with a right trace: the filler refuses none of them
+right-unrefused : (q : ℕ) (m : Memory) (inits ops : List Row) → RowsBelow q inits → RowsBelow q ops → DueRows m Starting inits → DueRows m Operating ops
+    → allFit (start m (map (λ row. row .value) inits)) (map (operationOf m) ops) ≡ true
+    → Unrefused q m (map (λ row. row .value) inits) (map inputOf inits) (map inputOf ops)
+right-unrefused q m inits ops below below' starting operating fit = record {
+  starting = due-inputs-of q m Starting inits below starting;
+  operating = due-inputs-of q m Operating ops below' operating;
+  can = right-refilled m (map (λ row. row .value) inits) ops operating fit .can;
+}
+
+-- the same of the rows of a list of lines
+lines-unrefused : (q : ℕ) (m : Memory) (n t : ℕ) (lines : List Line) → 2 ≤ q → firstFault q m n t [] (parseRows q lines) .number ≡ 0
+    → right (traceIn q m n t lines) ≡ true
+    → Unrefused q m (map (λ row. row .value) (take n (rowsIn q lines))) (map inputOf (take n (rowsIn q lines))) (map inputOf (take t (drop n (rowsIn q lines))))
+unfolding right traceIn traceOf
+lines-unrefused q m n t lines two e fit =
+    let rows = rowsIn q lines in
+    let p = lines-parts q m n t lines e in
+    let below : RowsBelow q rows = unfold rowsIn in lines-below q lines (omega arith) in
+    right-unrefused q m (take n rows) (take t (drop n rows)) (taken-below q n rows below) (taken-below q t (drop n rows) (dropped-below q n rows below))
+    (subst (DueRows m Starting) (sym (parts-inits q m n t rows p)) (p .starting))
+    (subst (DueRows m Operating) (sym (parts-ops q m n t rows p)) (p .operating))
+    fit
+
+-- "A run that the rules refuse is not right."
+pub refused-not-right : RefusedNotRight
+refused-not-right q m n t lines two e refused = go (right (traceIn q m n t lines)) refl
+  where
+    go : (b : Bool) → right (traceIn q m n t lines) ≡ b → right (traceOf m n t (rowsIn q lines)) ≡ false
+    go true fit = absurd (refused (unrefused-zero q m _ 1 _ _ (lines-unrefused q m n t lines two e fit)))
+    go false wrong = unfold traceIn in wrong
+
+-- the trace of init rows and operations
+rowsTrace : Memory → ℕ → ℕ → List Row → List Row → Trace
+rowsTrace m n t inits ops = record {
+  memory = m;
+  size = n;
+  count = t;
+  inits = map (λ row. row .value) inits;
+  operations = map (operationOf m) ops;
+}
+
+-- What the honest prover's rules give for init rows and operations that the filler does not refuse and that fit.
+module _ (q : ℕ) (m : Memory) (n t : ℕ) (inits ops : List Row) (prime : Prime q) (room : t + 1 < q) (size : length inits ≡ n) (count : length ops ≡ t)
+    (due : DueRows m Operating ops) (fit : allFit (start m (map (λ row. row .value) inits)) (map (operationOf m) ops) ≡ true)
+    (u : Unrefused q m (map (λ row. row .value) inits) (map inputOf inits) (map inputOf ops)) where
+  honestParts : Parts q m n t (filledRows m t (map inputOf inits) (map inputOf ops))
+  honestParts =
+      filled-parts q m n t (map inputOf inits) (map inputOf ops) prime room (length-map inits inputOf ∙ size) (length-map ops inputOf ∙ count)
+      (subst (λ (vs : List ℕ). Unrefused q m vs (map inputOf inits) (map inputOf ops)) (sym (values-of-inputs inits)) u)
+
+  -- they meet no fault
+  honest-complete : firstFault q m n t [] (map Sound (filledRows m t (map inputOf inits) (map inputOf ops))) ≡ refusal 0 0
+  honest-complete = parts-no-fault q m n t (filledRows m t (map inputOf inits) (map inputOf ops)) honestParts
+
+  -- they have the same trace
+  honest-trace : traceOf m n t (filledRows m t (map inputOf inits) (map inputOf ops)) ≡ rowsTrace m n t inits ops
+  unfolding traceOf rowsTrace honestParts filled-parts
+  honest-trace =
+      let rows = filledRows m t (map inputOf inits) (map inputOf ops) in
+      let values : map (λ row. row .value) (take n rows) ≡ map (λ row. row .value) inits =
+      ap (map (λ row. row .value)) (parts-inits q m n t rows honestParts) ∙ (values-of-bare (map inputOf inits) ∙ values-of-inputs inits)
+      in
+      let operations : map (operationOf m) (take t (drop n rows)) ≡ map (operationOf m) ops =
+      ap (map (operationOf m)) (parts-ops q m n t rows honestParts)
+      ∙ (ap (λ (vs : List ℕ). map (operationOf m) (honestOps m vs (map inputOf ops))) (values-of-inputs inits) ∙ right-refilled m (map (λ row. row .value) inits) ops due fit .kept)
+      in
+      ap₂ (λ (vs : List ℕ) (os : List Operation). record { memory = m; size = n; count = t; inits = vs; operations = os }) values operations
+
+-- Where the trace is right, the rules refuse no row and give rows that are complete and well-formed, with the same trace.
+pub honest-rows : HonestRows
+unfolding right traceIn traceOf rowsTrace
+honest-rows q m n t lines prime room below e fit =
+    let rows = rowsIn q lines in
+    let p = lines-parts q m n t lines e in
+    let inits = take n rows in
+    let ops = take t (drop n rows) in
+    let size = ap length (parts-inits q m n t rows p) ∙ p .size in
+    let count = ap length (parts-ops q m n t rows p) ∙ p .count in
+    let due = subst (DueRows m Operating) (sym (parts-ops q m n t rows p)) (p .operating) in
+    let fits : allFit (start m (map (λ row. row .value) inits)) (map (operationOf m) ops) ≡ true = fit in
+    let u = lines-unrefused q m n t lines (omega arith) e fit in
+    record {
+      fills = unrefused-zero q m _ 1 _ _ u;
+      complete = honest-complete q m n t inits ops prime room size count due fits u;
+      trace = honest-trace q m n t inits ops prime room size count due fits u;
+    }

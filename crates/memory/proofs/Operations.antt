@@ -1,0 +1,113 @@
+-- The operation rows of a stack or queue: each row's op is one of the two that are due and its guard is 0 or 1, so a statement about
+-- a row is shown by four cases in which the tests on op and guard compute.
+-- Assumes nothing.
+use Prim.Native.Nat.{ℕ, zero, suc, _≤_}
+use mathlib.Core.Path.{_≡_, refl, sym, _∙_, ap, subst}
+use mathlib.Core.Bool.{Bool, true, false, _||_, false≢true}
+use mathlib.Core.List.{List, [], _∷_, map}
+use native.Mathlib.Omega.{arith}
+use lib.Dec.{leb}
+use borrow.Author.Tests.{eqb-true, leb-true}
+use Rattle.memory.specs.declared.Memory.{Memory}
+use Rattle.memory.specs.declared.Op.{Op}
+use Rattle.memory.specs.declared.Op.the-variants.{Init, Access, Look, Member, Push, Pop, Enqueue, Dequeue, End, Range, Other}
+use Rattle.memory.specs.declared.Phase.the-variants.{Operating}
+use Rattle.memory.specs.declared.Row.{Row}
+use Rattle.memory.specs.Names.{opCode, isOp}
+use Rattle.memory.specs.Rows.{opsDue, opIn}
+use Rattle.memory.specs.Honest.{Input, inputOf}
+
+-- each row's op is due among the operations of the memory, and its guard is 0 or 1
+abbrev pub Ops : Memory → List Row → Type 0
+Ops m [] = Unit {0}
+Ops m (row ∷ rows) = (opIn (row .op) (opsDue m Operating) ≡ true) × (leb (row .guard) 1 ≡ true) × Ops m rows
+
+-- the same of the filler's input
+abbrev pub Inputs : Memory → List Input → Type 0
+Inputs m [] = Unit {0}
+Inputs m (i ∷ is) = (opIn (i .op) (opsDue m Operating) ≡ true) × (leb (i .guard) 1 ≡ true) × Inputs m is
+
+-- what a row takes from the filler's input is as the row
+pub inputs-of-ops : (m : Memory) (rows : List Row) → Ops m rows → Inputs m (map inputOf rows)
+unfolding inputOf
+inputs-of-ops m [] h = tt
+inputs-of-ops m (row ∷ rows) h = (h .0, h .1, inputs-of-ops m rows (h .2))
+
+-- the op that a number stands for
+opOfCode : ℕ → Op
+opOfCode zero = Init
+opOfCode (suc zero) = Access
+opOfCode (suc (suc zero)) = Look
+opOfCode (suc (suc (suc zero))) = Member
+opOfCode (suc (suc (suc (suc zero)))) = Push
+opOfCode (suc (suc (suc (suc (suc zero))))) = Pop
+opOfCode (suc (suc (suc (suc (suc (suc zero)))))) = Enqueue
+opOfCode (suc (suc (suc (suc (suc (suc (suc zero))))))) = Dequeue
+opOfCode (suc (suc (suc (suc (suc (suc (suc (suc zero)))))))) = End
+opOfCode (suc (suc (suc (suc (suc (suc (suc (suc (suc zero))))))))) = Range
+opOfCode (suc (suc (suc (suc (suc (suc (suc (suc (suc (suc n)))))))))) = Other
+
+-- and back
+op-of-code : (o : Op) → opOfCode (opCode o) ≡ o
+unfolding opOfCode opCode
+op-of-code Init = refl
+op-of-code Access = refl
+op-of-code Look = refl
+op-of-code Member = refl
+op-of-code Push = refl
+op-of-code Pop = refl
+op-of-code Enqueue = refl
+op-of-code Dequeue = refl
+op-of-code End = refl
+op-of-code Range = refl
+op-of-code Other = refl
+
+-- ops that pass the test are equal
+pub isOp-true : (x y : Op) → isOp x y ≡ true → x ≡ y
+unfolding isOp
+isOp-true x y e = sym (op-of-code x) ∙ (ap opOfCode (eqb-true (opCode x) (opCode y) e) ∙ op-of-code y)
+
+-- a guard of at most 1 is 0 or 1
+guard-cases : (P : ℕ → Type 0) → P 1 → P 0 → (g : ℕ) → g ≤ 1 → P g
+guard-cases P one none zero h = none
+guard-cases P one none (suc zero) h = one
+guard-cases P one none (suc (suc g)) h = absurd (omega (arith, h))
+
+-- a statement about one of two ops
+either-op : (P : Op → Type 0) (x y o : Op) (a b : Bool) → isOp o x ≡ a → isOp o y ≡ b → ((a || (b || false)) ≡ true) → P x → P y → P o
+either-op P x y o true b e d h px py = subst P (sym (isOp-true o x e)) px
+either-op P x y o false true e d h px py = subst P (sym (isOp-true o y d)) py
+either-op P x y o false false e d h px py = absurd (false≢true h)
+
+-- a statement about an op, one of two, and a guard of at most 1
+pub op-cases :
+    (P : Op → ℕ → Type 0) (x y : Op) → P x 1 → P x 0 → P y 1 → P y 0
+    → (o : Op) (g : ℕ) → opIn o (x ∷ y ∷ []) ≡ true → leb g 1 ≡ true → P o g
+unfolding opIn
+op-cases P x y x1 x0 y1 y0 o g h l =
+    either-op (λ (k : Op). P k g) x y o (isOp o x) (isOp o y) refl refl h
+    (guard-cases (P x) x1 x0 g (leb-true g 1 l))
+    (guard-cases (P y) y1 y0 g (leb-true g 1 l))
+
+-- a row with the given op and guard, and the other columns of a row
+unfoldable pub rowAt : Op → ℕ → Row → Row
+rowAt o g row =
+    record { op = o; guard = g; addr = row .addr; value = row .value; old = row .old; time = row .time; version = row .version }
+
+-- a statement about a row, by the four cases
+pub row-cases :
+    (P : Row → Type 0) (x y : Op) (row : Row) → P (rowAt x 1 row) → P (rowAt x 0 row) → P (rowAt y 1 row) → P (rowAt y 0 row)
+    → opIn (row .op) (x ∷ y ∷ []) ≡ true → leb (row .guard) 1 ≡ true → P row
+unfolding rowAt
+row-cases P x y row x1 x0 y1 y0 = op-cases (λ o g. P (rowAt o g row)) x y x1 x0 y1 y0 (row .op) (row .guard)
+
+-- an input with the given op and guard, and the other columns of an input
+unfoldable pub inputAt : Op → ℕ → Input → Input
+inputAt o g i = record { op = o; guard = g; addr = i .addr; value = i .value }
+
+-- a statement about an input, by the four cases
+pub input-cases :
+    (P : Input → Type 0) (x y : Op) (i : Input) → P (inputAt x 1 i) → P (inputAt x 0 i) → P (inputAt y 1 i) → P (inputAt y 0 i)
+    → opIn (i .op) (x ∷ y ∷ []) ≡ true → leb (i .guard) 1 ≡ true → P i
+unfolding inputAt
+input-cases P x y i x1 x0 y1 y0 = op-cases (λ o g. P (inputAt o g i)) x y x1 x0 y1 y0 (i .op) (i .guard)

@@ -1,0 +1,117 @@
+-- The filling program: from the bytes of its input to the bytes that it prints. Section "The filler" of document 01.
+-- Assumes nothing.
+use Prim.Native.Nat.{ℕ, zero, suc, _+_}
+use mathlib.Core.Bool.{Bool, true, false, _&&_, cond}
+use mathlib.Core.Option.{Option, none, some}
+use mathlib.Core.List.{List, [], _∷_, _++_, map}
+use lib.Dec.{eqb, leb, ltb}
+use lib.ListN.{length, getD, take, drop}
+use Rattle.memory.specs.declared.Memory.{Memory}
+use Rattle.memory.specs.declared.Phase.the-variants.{Starting, Operating}
+use Rattle.memory.specs.Bytes.{Line, fitting, fields, numerals, numbers, allBelow, linesOf}
+use Rattle.memory.specs.Names.{fillNames, inputNames, memoryNamed, opNamed}
+use Rattle.memory.specs.Rows.{allowed, opsDue}
+use Rattle.memory.specs.File.{Refusal, refusal, namesFault}
+use Rattle.memory.specs.Honest.{Input, filledRows}
+use Rattle.memory.specs.Filler.{Placed, inputFault, rowsFault}
+use Rattle.memory.specs.Print.{refusalText, filledText}
+
+-- "The filling program takes size and count up to 128; above is 4."
+unfoldable pub fillLimit : ℕ
+fillLimit = 128
+
+unfoldable pub fillAllowed : Memory → ℕ → ℕ → Bool
+fillAllowed m n t = allowed m n t && (leb n fillLimit && leb t fillLimit)
+
+-- What the value line reads as: memory, size and count, or its fault
+pub data Job : Type 0 where
+  job : Memory → ℕ → ℕ → Job
+  noJob : ℕ → Job
+
+unfoldable pub jobOf : Option Memory → ℕ → ℕ → Job
+jobOf none n t = noJob 4
+jobOf (some m) n t = cond (fillAllowed m n t) (job m n t) (noJob 4)
+
+unfoldable pub jobOfFields : ℕ → List (List ℕ) → Job
+jobOfFields q fs =
+    let ns = numbers (drop 1 fs) in
+    cond (numerals (drop 1 fs)) (cond (allBelow q ns) (jobOf (memoryNamed (getD fs 0 [])) (getD ns 0 0) (getD ns 1 0)) (noJob 3)) (noJob 2)
+
+unfoldable pub parseJob : ℕ → Line → Job
+parseJob q line =
+    cond (fitting line)
+    (cond (eqb (length (fields (line .text))) 3) (jobOfFields q (fields (line .text))) (noJob 2))
+    (noJob 2)
+
+-- What a row line of the filler's input reads as: the row, or its fault 2 or 3
+pub data InputLine : Type 0 where
+  sound : Input → InputLine
+  faulty : ℕ → InputLine
+
+unfoldable pub inputOfFields : ℕ → List (List ℕ) → InputLine
+inputOfFields q fs =
+    let ns = numbers (drop 1 fs) in
+    cond (numerals (drop 1 fs))
+    (cond (allBelow q ns)
+    (sound (record { op = opNamed (getD fs 0 []); guard = getD ns 0 0; addr = getD ns 1 0; value = getD ns 2 0 }))
+    (faulty 3))
+    (faulty 2)
+
+unfoldable pub parseInput : ℕ → Line → InputLine
+parseInput q line =
+    cond (fitting line)
+    (cond (eqb (length (fields (line .text))) 4) (inputOfFields q (fields (line .text))) (faulty 2))
+    (faulty 2)
+
+-- the row after k rows is an init row or an operation; its fault by its form, or 0
+unfoldable pub inputLineFault : ℕ → Memory → ℕ → ℕ → InputLine → ℕ
+inputLineFault q m n k (sound i) = inputFault q m (opsDue m (cond (ltb k n) Starting Operating)) i
+inputLineFault q m n k (faulty f) = f
+
+-- "1 to 7 by line": the first fault of the row lines, the first of which is the row after k rows, on line k + 4; size + count rows are due
+unfoldable pub inputsFault : ℕ → Memory → ℕ → ℕ → ℕ → List InputLine → Refusal
+inputsFault q m n t k [] = cond (ltb k (n + t)) (refusal 7 (k + 4)) (refusal 0 0)
+inputsFault q m n t k (x ∷ xs) =
+    let f = cond (ltb k (n + t)) (inputLineFault q m n k x) 7 in
+    let rest = inputsFault q m n t (suc k) xs in
+    cond (eqb f 0) rest (refusal f (k + 4))
+
+unfoldable pub inputOfLine : InputLine → List Input
+inputOfLine (sound i) = i ∷ []
+inputOfLine (faulty f) = []
+
+unfoldable pub inputsOfLines : List InputLine → List Input
+inputsOfLines [] = []
+inputsOfLines (x ∷ xs) = inputOfLine x ++ inputsOfLines xs
+
+-- "then 11 to 13, row k being line k + 3": what is printed for rows of the right form
+unfoldable pub runText : ℕ → Memory → ℕ → ℕ → List Input → List ℕ
+runText q m n t rows =
+    let f = rowsFault q m (map (λ i. i .value) (take n rows)) 1 (take n rows) (drop n rows) in
+    cond (eqb (f .number) 0) (filledText (filledRows m t (take n rows) (drop n rows))) (refusalText (f .number) (f .place + 3))
+
+unfoldable pub inputsText : ℕ → Memory → ℕ → ℕ → List InputLine → List ℕ
+inputsText q m n t xs =
+    let f = inputsFault q m n t 0 xs in
+    cond (eqb (f .number) 0) (runText q m n t (inputsOfLines xs)) (refusalText (f .number) (f .line))
+
+-- the lines from line 3 on, after a value line
+unfoldable pub jobText : ℕ → Job → List Line → List ℕ
+jobText q (noJob f) lines = refusalText f 2
+jobText q (job m n t) [] = refusalText 7 3
+jobText q (job m n t) (line ∷ lines) =
+    cond (eqb (namesFault inputNames line) 0) (inputsText q m n t (map (parseInput q) lines)) (refusalText (namesFault inputNames line) 3)
+
+-- the lines from line 2 on
+unfoldable pub jobLinesText : ℕ → List Line → List ℕ
+jobLinesText q [] = refusalText 7 2
+jobLinesText q (line ∷ lines) = jobText q (parseJob q line) lines
+
+-- what the filling program prints for its input
+unfoldable pub fillLinesText : ℕ → List Line → List ℕ
+fillLinesText q [] = refusalText 1 1
+fillLinesText q (line ∷ lines) =
+    cond (eqb (namesFault fillNames line) 0) (jobLinesText q lines) (refusalText (namesFault fillNames line) 1)
+
+unfoldable pub fillText : ℕ → List ℕ → List ℕ
+fillText q bytes = fillLinesText q (linesOf bytes)

@@ -1,0 +1,17 @@
+pub mod Text
+pub mod Bytes
+pub mod Names
+pub mod Rows
+pub mod Equations
+pub mod Gates
+pub mod Plain
+pub mod Honest
+pub mod File
+pub mod Step
+pub mod Filler
+pub mod Bound
+pub mod Statements
+pub mod Cases
+pub mod Print
+pub mod Stream
+pub mod FillFile

@@ -1,0 +1,203 @@
+-- Which rows are due, which columns a row uses, and the faults of a row line: sections "The file" and "The numbers" of document 01.
+-- The modulus q is document 01's p wherever a file is checked.
+-- Assumes nothing.
+use Prim.Native.Nat.{ℕ, zero, suc, _+_, _-_, _*_}
+use mathlib.Core.Bool.{Bool, true, false, _&&_, _||_, not, cond}
+use mathlib.Core.List.{List, [], _∷_, _++_}
+use lib.Dec.{eqb, leb, ltb}
+use lib.ListN.{length, getD, drop}
+use Rattle.algebra.specs.Modulo.{minus, times}
+use Rattle.memory.specs.declared.Memory.{Memory}
+use Rattle.memory.specs.declared.Memory.the-variants.{Ram, Rom, Set, Stack, Queue}
+use Rattle.memory.specs.declared.Op.{Op}
+use Rattle.memory.specs.declared.Op.the-variants.{Init, Access, Look, Member, Push, Pop, Enqueue, Dequeue, End, Range, Other}
+use Rattle.memory.specs.declared.Phase.{Phase}
+use Rattle.memory.specs.declared.Phase.the-variants.{Starting, Operating, Ending, Ranging, Over}
+use Rattle.memory.specs.declared.Row.{Row}
+use Rattle.memory.specs.declared.Parsed.{Parsed}
+use Rattle.memory.specs.declared.Parsed.the-variants.{Sound, Fault}
+use Rattle.memory.specs.Bytes.{Line, fitting, fields, numerals, numbers, allBelow}
+use Rattle.memory.specs.Names.{opNamed, isOp}
+
+-- "Size n is 0 to 65,536, and 0 for stack and queue. Count T is 0 to 65,536."
+unfoldable pub limit : ℕ
+limit = 65536
+
+unfoldable pub sized : Memory → ℕ → Bool
+sized Ram n = leb n limit
+sized Rom n = leb n limit
+sized Set n = leb n limit
+sized Stack n = eqb n 0
+sized Queue n = eqb n 0
+
+unfoldable pub allowed : Memory → ℕ → ℕ → Bool
+allowed m n t = sized m n && leb t limit
+
+-- by how much an operation raises and lowers the depth: "Push adds guard to depth", "Enqueue adds guard to depth",
+-- a pop or dequeue subtracts guard from it
+unfoldable pub raiseBy : Op → ℕ → ℕ
+raiseBy o g = cond (isOp o Push || isOp o Enqueue) g 0
+
+unfoldable pub lowerBy : Op → ℕ → ℕ
+lowerBy o g = cond (isOp o Pop || isOp o Dequeue) g 0
+
+-- the executed pushes or enqueues of a list of rows, and the executed pops or dequeues
+unfoldable pub raised : List Row → ℕ
+raised [] = 0
+raised (row ∷ rows) = raiseBy (row .op) (row .guard) + raised rows
+
+unfoldable pub lowered : List Row → ℕ
+lowered [] = 0
+lowered (row ∷ rows) = lowerBy (row .op) (row .guard) + lowered rows
+
+-- "End rows: n for ram, rom, set; the final depth D for stack and queue", D given by how often the depth rose and fell
+unfoldable pub endsDue : Memory → ℕ → ℕ → ℕ → ℕ
+endsDue Ram n up down = n
+endsDue Rom n up down = n
+endsDue Set n up down = n
+endsDue Stack n up down = up - down
+endsDue Queue n up down = up - down
+
+-- "then for ram and stack T `range` rows"
+unfoldable pub rangesDue : Memory → ℕ → ℕ
+rangesDue Ram t = t
+rangesDue Rom t = 0
+rangesDue Set t = 0
+rangesDue Stack t = t
+rangesDue Queue t = 0
+
+-- "Which rows are due is decided by the memory and by how many have passed: n `init` (ram, rom, set); T operations; the `end` rows; then
+-- for ram and stack T `range` rows": the phase of the row after k rows, where `ends` end rows and `ranges` range rows are due
+unfoldable pub phaseAt : ℕ → ℕ → ℕ → ℕ → ℕ → Phase
+phaseAt n t ends ranges k =
+    cond (ltb k n) Starting
+    (cond (ltb k (n + t)) Operating
+    (cond (ltb k (n + t + ends)) Ending
+    (cond (ltb k (n + t + ends + ranges)) Ranging Over)))
+
+-- "init (ram, rom, set)", "Stacks take push and pop, queues enqueue and dequeue, in any order": the ops due in each phase of each memory
+unfoldable pub opsDue : Memory → Phase → List Op
+opsDue m Starting = Init ∷ []
+opsDue Ram Operating = Access ∷ []
+opsDue Rom Operating = Look ∷ []
+opsDue Set Operating = Member ∷ []
+opsDue Stack Operating = Push ∷ Pop ∷ []
+opsDue Queue Operating = Enqueue ∷ Dequeue ∷ []
+opsDue m Ending = End ∷ []
+opsDue m Ranging = Range ∷ []
+opsDue m Over = []
+
+unfoldable pub opIn : Op → List Op → Bool
+opIn o [] = false
+opIn o (x ∷ xs) = isOp o x || opIn o xs
+
+-- the columns that a row may use; "Other columns hold 0."
+pub record Columns : Type 0 where
+  pub guard : Bool
+  pub addr : Bool
+  pub value : Bool
+  pub old : Bool
+  pub time : Bool
+  pub version : Bool
+
+unfoldable pub columns : Bool → Bool → Bool → Bool → Bool → Bool → Columns
+columns g a v o t n = record { guard = g; addr = a; value = v; old = o; time = t; version = n }
+
+-- "Columns used", by memory and op
+unfoldable pub used : Memory → Op → Columns
+used m Init = columns false false true false false false
+used m Access = columns true true true true true true
+used m Look = columns false true false true false true
+used m Member = columns false false true false false true
+used m Push = columns true false true false false false
+used m Pop = columns true false false true true true
+used m Enqueue = columns true false true false false false
+used m Dequeue = columns true false false true false false
+used Ram End = columns false false false true true false
+used Rom End = columns false false true false false true
+used Set End = columns false false true false false true
+used Stack End = columns false false false true true false
+used Queue End = columns false false false true false false
+used m Range = columns false false false false false true
+used m Other = columns false false false false false false
+
+-- 6: "guard above 1, or an unused column not 0"
+unfoldable pub empty : Bool → ℕ → Bool
+empty used x = used || eqb x 0
+
+unfoldable pub formed : Memory → Row → Bool
+formed m row =
+    let u = used m (row .op) in
+    (leb (row .guard) 1 && empty (u .guard) (row .guard))
+    && ((empty (u .addr) (row .addr) && empty (u .value) (row .value))
+    && (empty (u .old) (row .old) && (empty (u .time) (row .time) && empty (u .version) (row .version))))
+
+-- a row line with the right number of fields: 2 if a number is none, else 3 if one is q or more, else the row
+unfoldable pub rowOfFields : ℕ → List (List ℕ) → Parsed
+rowOfFields q fs =
+    let ns = numbers (drop 1 fs) in
+    cond (numerals (drop 1 fs))
+    (cond (allBelow q ns)
+    (Sound
+    (record {
+      op = opNamed (getD fs 0 []);
+      guard = getD ns 0 0;
+      addr = getD ns 1 0;
+      value = getD ns 2 0;
+      old = getD ns 3 0;
+      time = getD ns 4 0;
+      version = getD ns 5 0;
+    }))
+    (Fault 3))
+    (Fault 2)
+
+-- what a row line reads as. 2: "wrong number of fields, a number empty, over 10 digits, with a leading zero (0 itself is fine) or not digits, line too
+-- long or without line feed"; 3: "a number is p or more"
+unfoldable pub parseRow : ℕ → Line → Parsed
+parseRow q line =
+    cond (fitting line)
+    (cond (eqb (length (fields (line .text))) 7) (rowOfFields q (fields (line .text))) (Fault 2))
+    (Fault 2)
+
+-- the queue's product: "Each dequeue multiplies a product by depth + 1 − guard, before depth falls by guard", after `up` executed enqueues and `down` executed dequeues
+unfoldable pub depthFactor : ℕ → ℕ → ℕ → Row → ℕ
+depthFactor q up down row = cond (isOp (row .op) Dequeue) (minus q (up + 1) (down + row .guard)) 1
+
+unfoldable pub depthProduct : ℕ → ℕ → ℕ → List Row → ℕ
+depthProduct q up down [] = 1
+depthProduct q up down (row ∷ rows) =
+    times q (depthFactor q up down row)
+    (depthProduct q (up + raiseBy (row .op) (row .guard)) (down + lowerBy (row .op) (row .guard)) rows)
+
+-- 8: "the queue's depth product is 0, or the stack's depth is below 0", of all operations
+unfoldable pub sunk : ℕ → Memory → List Row → Bool
+sunk q Ram rows = false
+sunk q Rom rows = false
+sunk q Set rows = false
+sunk q Stack rows = ltb (raised rows) (lowered rows)
+sunk q Queue rows = eqb (depthProduct q 0 0 rows) 0
+
+-- how many rows are due in all, by the rows that have passed
+unfoldable pub dueAfter : Memory → ℕ → ℕ → List Row → ℕ
+dueAfter m n t rows = n + t + endsDue m n (raised rows) (lowered rows) + rangesDue m t
+
+unfoldable pub phaseAfter : Memory → ℕ → ℕ → List Row → Phase
+phaseAfter m n t rows = phaseAt n t (endsDue m n (raised rows) (lowered rows)) (rangesDue m t) (length rows)
+
+-- the fault of a row after the rows that have passed, or 0: 5 and 6, and at the last operation row 8
+unfoldable pub rowFault : ℕ → Memory → ℕ → ℕ → List Row → Row → ℕ
+rowFault q m n t rows row =
+    cond (opIn (row .op) (opsDue m (phaseAfter m n t rows)))
+    (cond (formed m row)
+    (cond (leb 1 t && (eqb (length rows + 1) (n + t) && sunk q m (rows ++ row ∷ []))) 8 0)
+    6)
+    5
+
+-- the fault of what a line reads as: "on one line, table order"
+unfoldable pub parsedFault : ℕ → Memory → ℕ → ℕ → List Row → Parsed → ℕ
+parsedFault q m n t rows (Sound row) = rowFault q m n t rows row
+parsedFault q m n t rows (Fault f) = f
+
+-- the fault of a line after the rows that have passed, or 0: "a surplus line is 7 without being read"
+unfoldable pub lineFault : ℕ → Memory → ℕ → ℕ → List Row → Parsed → ℕ
+lineFault q m n t rows parsed = cond (ltb (length rows) (dueAfter m n t rows)) (parsedFault q m n t rows parsed) 7

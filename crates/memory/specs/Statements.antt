@@ -1,0 +1,116 @@
+-- What is shown of the definitions. proofs/ has a proof of each, under the name that the comment gives.
+-- Assumes nothing.
+use Prim.Native.Nat.{ℕ, zero, suc, _+_, _-_, _*_, _^_, _≤_, _<_}
+use mathlib.Core.Path.{_≡_}
+use mathlib.Core.Logic.{_↔_}
+use mathlib.Core.Bool.{Bool, true, false}
+use mathlib.Core.List.{List, [], _∷_, _++_, map}
+use lib.ListN.{length, take, drop}
+use Rattle.algebra.specs.Prime.{Prime}
+use Rattle.field.specs.Field.{p}
+use Rattle.memory.specs.declared.Memory.{Memory}
+use Rattle.memory.specs.declared.Row.{Row}
+use Rattle.memory.specs.declared.Parsed.{Parsed}
+use Rattle.memory.specs.declared.Parsed.the-variants.{Sound}
+use Rattle.memory.specs.declared.Challenge.{Challenge}
+use Rattle.memory.specs.declared.State.{State}
+use Rattle.memory.specs.Bytes.{Line, allBelow}
+use Rattle.memory.specs.Rows.{allowed, raised, lowered}
+use Rattle.memory.specs.Equations.{fileLists, rangeBalances, memoryBalances}
+use Rattle.memory.specs.Gates.{inputsOf, multsOf, inputsFormula, multsFormula, puts, takes}
+use Rattle.memory.specs.File.{firstFault, refusal, parseRows, valuesFault, valuesReport, fileReport}
+use Rattle.memory.specs.Plain.{right, traceOf}
+use Rattle.memory.specs.Honest.{inputOf, filledRows}
+use Rattle.memory.specs.Step.{takesRows, stepOf, rowOf, endOf, runOf, freshOf, reportOf}
+use Rattle.memory.specs.Filler.{rowsFault}
+use Rattle.memory.specs.Stream.{Reading, unread, bytesOf, finishOf}
+use Rattle.memory.specs.Bound.{accepts, challenges, malformed, degree, rowsIn, traceIn, Advised}
+
+-- Fold: the value line's fresh state, advanced by any list of rows and then ended, answers what the whole-file definition says: answer, line, inputs,
+-- multiplications. (Fold: fold-is-file)
+abbrev pub FoldIsFile : Type 0
+FoldIsFile =
+    (q : ℕ) (m : Memory) (n t : ℕ) (ch : Challenge) (lines : List Line) → 2 ≤ q
+    → reportOf (endOf (runOf q (freshOf q m n t ch) lines)) ≡ valuesReport q m n t ch (parseRows q lines)
+
+-- "After a refusal or the end of file a state is fixed": rows and ends leave it as it is. (Fold: fixed-state)
+abbrev pub FixedState : Type 0
+FixedState =
+    (q : ℕ) (s : State) → takesRows (s .context) ≡ false → ((x : Parsed) → stepOf q s x ≡ s) × (endOf s ≡ s)
+
+-- A state after the end of file takes no rows. (Fold: ended-state)
+abbrev pub EndedState : Type 0
+EndedState = (s : State) → takesRows (endOf s .context) ≡ false
+
+-- Demand 2: the answer is 0 exactly when the rows are complete and well-formed, there is no 8, and the equations hold. (Fold: accepts-exactly-when)
+pub record Holds (q : ℕ) (m : Memory) (n t : ℕ) (ch : Challenge) (lines : List Line) : Type 0 where
+  pub values : valuesFault q m n t ch ≡ 0
+  pub rows : firstFault q m n t [] (parseRows q lines) .number ≡ 0
+  pub range : rangeBalances q ch (fileLists q m n t (rowsIn q lines)) ≡ true
+  pub memory : memoryBalances q ch (fileLists q m n t (rowsIn q lines)) ≡ true
+
+abbrev pub AcceptsExactlyWhen : Type 0
+AcceptsExactlyWhen =
+    (q : ℕ) (m : Memory) (n t : ℕ) (ch : Challenge) (lines : List Line) → 2 ≤ q
+    → (accepts q m n t lines ch ≡ true) ↔ Holds q m n t ch lines
+
+-- Gates: of complete and well-formed rows the counts are the formulas of document 01's table. (Gates: gates-by-formula)
+abbrev pub GatesByFormula : Type 0
+GatesByFormula =
+    (q : ℕ) (m : Memory) (n t : ℕ) (lines : List Line) → allowed m n t ≡ true → firstFault q m n t [] (parseRows q lines) .number ≡ 0
+    → let rows = rowsIn q lines in
+    (inputsOf m rows ≡ inputsFormula m n t (puts rows) (takes rows) (raised rows - lowered rows))
+    × (multsOf m rows ≡ multsFormula m n t (puts rows) (takes rows) (raised rows - lowered rows))
+
+-- Demand 3, for one list of rows: "incomplete or malformed, no challenge accepts; else if the trace is wrong, whatever the advice, at most 2·m·p³ of the p⁴
+-- challenges accept; and if it is right and the advice is the filler's, all p⁴ do"
+pub record Demand (q : ℕ) (m : Memory) (n t : ℕ) (lines : List Line) : Type 0 where
+  pub incomplete : malformed q m n t lines ≡ true → (ch : Challenge) → accepts q m n t lines ch ≡ false
+  pub wrong :
+      malformed q m n t lines ≡ false → right (traceIn q m n t lines) ≡ false
+      → challenges q (accepts q m n t lines) ≤ 2 * degree m n t (rowsIn q lines) * q ^ 3
+  -- the same with half the bound
+  pub sharp :
+      malformed q m n t lines ≡ false → right (traceIn q m n t lines) ≡ false
+      → challenges q (accepts q m n t lines) ≤ degree m n t (rowsIn q lines) * q ^ 3
+  pub honest :
+      malformed q m n t lines ≡ false → right (traceIn q m n t lines) ≡ true → Advised q m n t (rowsIn q lines)
+      → (ch : Challenge) → allBelow q (ch .r ∷ ch .a ∷ ch .b ∷ ch .c ∷ []) ≡ true → accepts q m n t lines ch ≡ true
+
+-- the statement for any prime, of sizes and counts that it has room for (Demand: demand-at)
+abbrev pub DemandAt : Type 0
+DemandAt =
+    (q : ℕ) (m : Memory) (n t : ℕ) (lines : List Line) → Prime q → 2 * t ≤ q → t + 1 < q → n ≤ q → Demand q m n t lines
+
+-- Demand 3: "For every memory, size, count and list of rows" (Demand: demand-three)
+abbrev pub DemandThree : Type 0
+DemandThree = (m : Memory) (n t : ℕ) (lines : List Line) → Demand p m n t lines
+
+-- The honest prover's rules, over the rows of a well-formed file. Where the trace is right, they refuse no row and give rows that are complete and well-formed, with
+-- the same trace. (HonestRows: honest-rows)
+pub record HonestRun (q : ℕ) (m : Memory) (n t : ℕ) (rows : List Row) : Type 0 where
+  pub fills : rowsFault q m (map (λ row. row .value) (take n rows)) 1 (map inputOf (take n rows)) (map inputOf (take t (drop n rows))) .number ≡ 0
+  pub complete :
+      firstFault q m n t [] (map Sound (filledRows m t (map inputOf (take n rows)) (map inputOf (take t (drop n rows))))) ≡ refusal 0 0
+  pub trace : traceOf m n t (filledRows m t (map inputOf (take n rows)) (map inputOf (take t (drop n rows)))) ≡ traceOf m n t rows
+
+abbrev pub HonestRows : Type 0
+HonestRows =
+    (q : ℕ) (m : Memory) (n t : ℕ) (lines : List Line) → Prime q → t + 1 < q → n ≤ q → firstFault q m n t [] (parseRows q lines) .number ≡ 0
+    → right (traceIn q m n t lines) ≡ true → HonestRun q m n t (rowsIn q lines)
+
+-- A run that the rules refuse is not right. (HonestRows: refused-not-right)
+abbrev pub RefusedNotRight : Type 0
+RefusedNotRight =
+    (q : ℕ) (m : Memory) (n t : ℕ) (lines : List Line) → 2 ≤ q → firstFault q m n t [] (parseRows q lines) .number ≡ 0
+    → let rows = rowsIn q lines in
+    (rowsFault q m (map (λ row. row .value) (take n rows)) 1 (map inputOf (take n rows)) (map inputOf (take t (drop n rows))) .number ≡ 0 → ⊥)
+    → right (traceOf m n t rows) ≡ false
+
+-- A file read in pieces, cut anywhere, gives what reading it whole gives. (Stream: stream-cut)
+abbrev pub StreamCut : Type 0
+StreamCut = (q : ℕ) (v : Reading) (xs ys : List ℕ) → bytesOf q v (xs ++ ys) ≡ bytesOf q (bytesOf q v xs) ys
+
+-- A file read byte by byte, up to its end, gives what `check` prints for it. (Stream: stream-is-file)
+abbrev pub StreamIsFile : Type 0
+StreamIsFile = (q : ℕ) (bytes : List ℕ) → 2 ≤ q → finishOf q (bytesOf q unread bytes) ≡ fileReport q bytes

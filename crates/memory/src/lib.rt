@@ -1,0 +1,104 @@
+// The types that the definitions of document 01 and the code share. There is no code here: definitions and statements are in specs/, proofs in proofs/.
+
+// "The memory is `ram`, `rom`, `set`, `stack` or `queue`."
+pub enum Memory {
+    Ram,
+    Rom,
+    Set,
+    Stack,
+    Queue,
+}
+
+// The op of a row; `Other` is any name that document 01 does not have.
+pub enum Op {
+    Init,
+    Access,
+    Look,
+    Member,
+    Push,
+    Pop,
+    Enqueue,
+    Dequeue,
+    End,
+    Range,
+    Other,
+}
+
+// Where a row stands: among the init rows, the operations, the end rows or the range rows, or past the last due row.
+pub enum Phase {
+    Starting,
+    Operating,
+    Ending,
+    Ranging,
+    Over,
+}
+
+// A row, in the columns `op,guard,addr,value,old,time,version`.
+pub struct Row {
+    pub op: Op,
+    pub guard: u32,
+    pub addr: u32,
+    pub value: u32,
+    pub old: u32,
+    pub time: u32,
+    pub version: u32,
+}
+
+// "A challenge is four elements r, a, b, c."
+pub struct Challenge {
+    pub r: u32,
+    pub a: u32,
+    pub b: u32,
+    pub c: u32,
+}
+
+// What a row line reads as: a row, or its fault 2 or 3.
+pub enum Parsed {
+    Sound(Row),
+    Fault(u32),
+}
+
+// The part of a checker's state that no challenge enters.
+pub struct Context {
+    pub memory: Memory,
+    pub size: u32,
+    pub count: u32,
+    // rows passed
+    pub passed: u32,
+    // executed pushes or enqueues, and executed pops or dequeues
+    pub pushed: u32,
+    pub popped: u32,
+    // the queue's product of depth + 1 − guard
+    pub depths: u32,
+    pub inputs: u32,
+    pub mults: u32,
+    // the refusal and its line; 0 and 0 where there is none
+    pub answer: u32,
+    pub line: u32,
+    // the end of file has come
+    pub ended: bool,
+}
+
+// The running products and hashes of a checker's state.
+pub struct Products {
+    pub written: u32,
+    pub read: u32,
+    pub supplied: u32,
+    pub looked: u32,
+    pub enqueued: u32,
+    pub dequeued: u32,
+}
+
+pub struct State {
+    pub context: Context,
+    pub challenge: Challenge,
+    pub products: Products,
+}
+
+// What a check prints: answer, line, inputs, multiplications.
+pub struct Report {
+    pub answer: u32,
+    pub line: u32,
+    pub inputs: u32,
+    pub mults: u32,
+}
