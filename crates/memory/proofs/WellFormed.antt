@@ -12,12 +12,10 @@ use Rattle.memory.specs.declared.Row.{Row}
 use Rattle.memory.specs.declared.Parsed.{Parsed}
 use Rattle.memory.specs.Rows.{raised, lowered, endsDue, rangesDue, sunk, dueAfter}
 use Rattle.memory.specs.Equations.{initRows, operationRows, endRows, rangeRows}
-use Rattle.memory.specs.Gates.{takes}
 use Rattle.memory.specs.File.{rowsOf, firstFault}
 use Rattle.memory.proofs.Operations.{Ops}
 use Rattle.memory.proofs.ReadRows.{RowsBelow, taken-below, dropped-below, AllNumbered}
 use Rattle.memory.proofs.Phases.{Parts, parts-raised, parts-inits, parts-ops, parts-ends, parts-ranges, parts-depth, parts-floats, due-ops, no-fault-sound, no-fault-parts}
-use Rattle.memory.proofs.Gates.{parts-takes}
 
 -- What is known of the rows of a file without fault
 pub record WellFormed (q : ℕ) (m : Memory) (n t : ℕ) (rows : List Row) : Type 0 where
@@ -32,7 +30,6 @@ pub record WellFormed (q : ℕ) (m : Memory) (n t : ℕ) (rows : List Row) : Typ
   -- only operations move the counts
   pub rises : raised rows ≡ raised (operationRows n t rows)
   pub falls : lowered rows ≡ lowered (operationRows n t rows)
-  pub taken : takes rows ≡ takes (operationRows n t rows)
   -- no 8
   pub floats : 1 ≤ t → sunk q m (take (n + t) rows) ≡ false
 
@@ -61,7 +58,6 @@ parts-well-formed q m n t rows p =
       named = subst (Ops m) (sym ops) (due-ops m (p .ops) (p .operating));
       rises = moves .0 ∙ ap raised (sym ops);
       falls = moves .1 ∙ ap lowered (sym ops);
-      taken = parts-takes q m n t rows p ∙ ap takes (sym ops);
       floats = parts-floats q m n t rows p;
     }
 

@@ -191,17 +191,17 @@ right-or-rare-stack q n t rows test prime wide room below well balancing =
     let left : length ends ≡ raised ops - lowered ops = omega (arith, well .ends, well .rises, well .falls) in
     let taken : takes ops ≤ t = omega (arith, Sizes.takes-at-most ops (well .named), well .operations) in
     decided-twice
-    (range-decides q (t + takes rows) t (takes ops) test (popLookups q 0 ops) (rangeRows Stack n t rows) prime
+    (range-decides q (t + takes ops) t (takes ops) test (popLookups q 0 ops) (rangeRows Stack n t rows) prime
     (omega arith)
     (omega arith)
-    (omega (arith, well .taken))
+    (omega arith)
     (Sizes.pop-lookups q ops (well .named) (below .operations) 0)
     (below .ranges)
     (well .ranges)
     (λ ch e. balancing ch e .0))
     (λ ages. right-where
     (stack-sound q t ops (cellEnds 1 ends) (well .named) wide room (well .operations) ages)
-    (shuffle-decides q (t + takes rows) (raised ops) (lowered ops + length ends) test _ _ prime
+    (shuffle-decides q (t + takes ops) (raised ops) (lowered ops + length ends) test _ _ prime
     (Sizes.push-writes q ops (well .named) (below .operations) 0 0 (omega arith))
     (Sizes.append-triples
     (Sizes.pop-reads q ops (well .named) (below .operations) 0 0)
@@ -269,9 +269,9 @@ right-or-rare-queue q n t rows test prime none room below well balancing =
     Sizes.append-numbers (Sizes.dequeued-numbers q ops (well .named) (below .operations)) (Sizes.ended-numbers q ends (below .ends))
     in
     elim
-    (hashes-bound q (raised rows) (enqueues ops) (dequeues ops ++ endOlds ends) prime
-    (omega (arith, ins .count, well .rises))
-    (omega (arith, outs .count, well .ends, well .rises, well .falls))
+    (hashes-bound q (length (enqueues ops)) (enqueues ops) (dequeues ops ++ endOlds ends) prime
+    refl
+    (omega (arith, ins .count, outs .count, well .ends, well .rises, well .falls))
     (ins .below)
     (outs .below)) [
       | inl same ↦ inl (queue-sound q ops (endOlds ends) (well .named) (omega (arith, well .operations)) same product)

@@ -13,7 +13,8 @@ use Rattle.memory.specs.declared.Row.{Row}
 use Rattle.memory.specs.declared.Parsed.{Parsed}
 use Rattle.memory.specs.declared.Challenge.{Challenge}
 use Rattle.memory.specs.Bytes.{Line, allBelow}
-use Rattle.memory.specs.Rows.{allowed, raised}
+use Rattle.memory.specs.Rows.{allowed}
+use Rattle.memory.specs.Equations.{enqueues, operationRows}
 use Rattle.memory.specs.Gates.{takes}
 use Rattle.memory.specs.File.{firstFault, rowsOf, parseRows}
 use Rattle.memory.specs.Plain.{Trace, traceOf}
@@ -44,8 +45,8 @@ unfoldable pub degree : Memory → ℕ → ℕ → List Row → ℕ
 degree Rom n t rows = t + n
 degree Set n t rows = t + n
 degree Ram n t rows = t + max n t
-degree Stack n t rows = t + takes rows
-degree Queue n t rows = raised rows
+degree Stack n t rows = t + takes (operationRows n t rows)
+degree Queue n t rows = length (enqueues (operationRows n t rows))
 
 -- the rows of a list of lines, and their trace
 unfoldable pub rowsIn : ℕ → List Line → List Row

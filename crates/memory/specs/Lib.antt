@@ -11,7 +11,7 @@ pub mod Step
 pub mod Filler
 pub mod Bound
 pub mod Statements
-pub mod Cases
 pub mod Print
 pub mod Stream
 pub mod FillFile
+pub mod Cases
