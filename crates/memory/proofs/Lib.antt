@@ -35,3 +35,7 @@ pub mod FillerRows
 pub mod HonestRows
 pub mod HonestBalances
 pub mod Demand
+pub mod Stream
+pub mod Decimal
+pub mod Lengths
+pub mod RoundTrip

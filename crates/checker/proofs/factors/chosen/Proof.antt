@@ -1,0 +1,17 @@
+-- `checker::factors::chosen` meets its contract.
+-- Assumes nothing.
+use borrow.Author.Tests.{eq-eqb, ne-eqb}
+use Rattle.memory.specs.Equations.{newOf}
+use Rattle.checker.proofs.factors.chosen.Statement.{statement}
+use Rattle.checker.proofs.factors.chosen.Tie as tie
+
+returns : tie.Need-returns
+unfolding newOf
+returns c = simp (eq-eqb _ _ (c .if1 .taken))
+
+returns-2 : tie.Need-returns-2
+unfolding newOf
+returns-2 c = simp (ne-eqb _ _ (c .if1 .left))
+
+pub chosen-spec : {M : Type 1} → statement M
+chosen-spec = tie.close (tie.spec returns returns-2)

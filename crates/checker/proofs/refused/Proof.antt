@@ -1,0 +1,13 @@
+-- `checker::refused` meets its contract.
+-- Assumes nothing.
+use mathlib.Core.Path.{refl}
+use Rattle.memory.specs.File.{refused}
+use Rattle.checker.proofs.refused.Statement.{statement}
+use Rattle.checker.proofs.refused.Tie as tie
+
+returns : tie.Need-returns
+unfolding refused
+returns c = refl
+
+pub refused-spec : {M : Type 1} → statement M
+refused-spec = tie.close (tie.spec returns)

@@ -1,0 +1,151 @@
+// Rows to an answer: the fresh state of a value line, one row, the end of file, and what is printed of a state.
+use memory::Challenge;
+use memory::Context;
+use memory::Memory;
+use memory::Parsed;
+use memory::Products;
+use memory::Report;
+use memory::State;
+
+mod columns;
+mod due;
+mod factors;
+mod gates;
+mod numbers;
+mod ops;
+mod passing;
+mod state;
+mod values;
+
+ghost use mathlib.Core.Path.{_≡_};
+ghost use mathlib.Core.Bool.{cond};
+ghost use lib.Dec.{eqb};
+ghost use Rattle.field.specs.Field.{p};
+ghost use Rattle.memory.specs.File.{refused};
+ghost use Rattle.memory.specs.Step.{freshOf, stepOf, endOf, reportOf};
+
+// A fault of the value line stands on line 2.
+fn value_line(fault: u32) -> u32
+    ensures { λ r. ⌜ r ≡ cond (eqb fault 0) 0 2 ⌝ }
+{
+    if fault == 0 { 0 } else { 2 }
+}
+
+// "The value line makes a fresh state": products start at 1, hashes at 0. Values with a fault make a state that has refused.
+pub fn fresh(memory: Memory, size: u32, count: u32, challenge: Challenge) -> State
+    ensures { λ r. ⌜ r ≡ freshOf p memory size count challenge ⌝ }
+{
+    let fault = values::fault(memory, size, count, challenge);
+    let context = Context {
+        memory,
+        size,
+        count,
+        passed: 0,
+        pushed: 0,
+        popped: 0,
+        depths: 1,
+        inputs: 0,
+        mults: 0,
+        answer: fault,
+        line: value_line(fault),
+        ended: false,
+    };
+    let products = Products {
+        written: 1,
+        read: 1,
+        supplied: 1,
+        looked: 1,
+        enqueued: 0,
+        dequeued: 0,
+    };
+    State {
+        context,
+        challenge,
+        products,
+    }
+}
+
+// One row, as its line reads. "a surplus line is 7 without being read"
+pub fn step(s: State, parsed: Parsed) -> State
+    ensures { λ r. ⌜ r ≡ stepOf p s parsed ⌝ }
+{
+    let c = s.context;
+    if !state::takes_rows(c) {
+        return s;
+    }
+    if due::total(c) <= c.passed as u64 {
+        return state::refuse_next(s, numbers::SURPLUS);
+    }
+    match parsed {
+        Parsed::Sound(row) => state::take_row(s, row),
+        Parsed::Fault(fault) => state::refuse_next(s, fault),
+    }
+}
+
+// The end of file: 7 if rows are missing, then 9, then 10.
+pub fn end(s: State) -> State
+    ensures { λ r. ⌜ r ≡ endOf s ⌝ }
+{
+    let c = s.context;
+    let ps = s.products;
+    if !state::takes_rows(c) {
+        return s;
+    }
+    if (c.passed as u64) < due::total(c) {
+        return state::refuse_next(s, numbers::MISSING);
+    }
+    if ps.supplied != ps.looked {
+        return state::refuse_last(s, numbers::RANGE);
+    }
+    if (ps.written == ps.read) & (ps.enqueued == ps.dequeued) {
+        state::accept(s)
+    } else {
+        state::refuse_last(s, numbers::SHUFFLE)
+    }
+}
+
+// What is printed of a refused file.
+fn refused(answer: u32, line: u32) -> Report
+    ensures { λ r. ⌜ r ≡ refused answer line ⌝ }
+{
+    Report {
+        answer,
+        line,
+        inputs: 0,
+        mults: 0,
+    }
+}
+
+// What is printed of a state: "answer (0 accept), line (0 if accepted), inputs, multiplications (0 if refused)". A state that still takes rows is an incomplete file.
+pub fn report(s: State) -> Report
+    ensures { λ r. ⌜ r ≡ reportOf s ⌝ }
+{
+    let c = s.context;
+    if c.answer != 0 {
+        return refused(c.answer, c.line);
+    }
+    if c.ended {
+        Report {
+            answer: 0,
+            line: 0,
+            inputs: c.inputs,
+            mults: c.mults,
+        }
+    } else {
+        refused(numbers::MISSING, passing::raise(c.passed, 4))
+    }
+}
+
+// "The checker's state is lent and advanced in place by a row."
+pub fn row_in_place(s: &mut State, parsed: Parsed)
+    ensures { λ _. ⌜ now (s .exit) ≡ stepOf p (now (s .entry)) parsed ⌝ }
+{
+    *s = step(*s, parsed);
+}
+
+// The end of file, of a state that is lent.
+pub fn end_in_place(s: &mut State)
+    ensures { λ _. ⌜ now (s .exit) ≡ endOf (now (s .entry)) ⌝ }
+{
+    *s = end(*s);
+}

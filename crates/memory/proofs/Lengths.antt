@@ -1,0 +1,72 @@
+-- How long the printed texts are at most, where the numbers have at most 10 digits.
+-- Assumes nothing.
+use mathlib.Core.Path.{_≡_, refl}
+use mathlib.Core.Bool.{Bool, true, false, _&&_}
+use mathlib.Core.List.{List, [], _∷_, _++_}
+use Prim.Native.Nat.{ℕ, _+_, _*_, _≤_}
+use native.Mathlib.Omega.{arith}
+use lib.Dec.{ltb}
+use lib.ListN.{length, length-append}
+use borrow.Author.Tests.{ltb-true}
+use Rattle.memory.specs.declared.Op.{Op}
+use Rattle.memory.specs.declared.Op.the-variants.{Init, Access, Look, Member, Push, Pop, Enqueue, Dequeue, End, Range, Other}
+use Rattle.memory.specs.declared.Row.{Row}
+use Rattle.memory.specs.declared.Report.{Report}
+use Rattle.memory.specs.Text.{bytes}
+use Rattle.memory.specs.Bytes.{comma, feed, allBelow}
+use Rattle.memory.specs.Names.{opName, reportNames, refusalNames}
+use Rattle.memory.specs.Print.{numberText, numbersText, rowText, reportText, refusalText}
+use Rattle.memory.proofs.Decimal.{tenDigits, number-length}
+
+-- both of two tests that hold together hold
+pub both-true : (a b : Bool) → (a && b) ≡ true → (a ≡ true) × (b ≡ true)
+both-true true b e = (refl, e)
+both-true false b e = let z : _≡_ {A = ℕ} 0 1 = cc in absurd (omega arith)
+
+-- a line of numbers: 10 digits and a comma or the line feed for each
+numbers-length : (x : ℕ) (ys : List ℕ) → allBelow tenDigits (x ∷ ys) ≡ true → length (numbersText x ys) ≤ 11 + 11 * length ys
+unfolding numbersText allBelow
+numbers-length x [] h =
+    let digits = number-length x (ltb-true x tenDigits (both-true (ltb x tenDigits) true h .0)) in
+    omega (arith, length-append (numberText x) (feed ∷ []), digits .1)
+numbers-length x (y ∷ ys) h =
+    let parts = both-true (ltb x tenDigits) (allBelow tenDigits (y ∷ ys)) h in
+    let digits = number-length x (ltb-true x tenDigits (parts .0)) in
+    omega (arith, length-append (numberText x) (comma ∷ numbersText y ys), digits .1, numbers-length y ys (parts .1))
+
+-- the names of the ops
+name-length : (o : Op) → length (opName o) ≤ 7
+unfolding opName bytes
+name-length Init = omega arith
+name-length Access = omega arith
+name-length Look = omega arith
+name-length Member = omega arith
+name-length Push = omega arith
+name-length Pop = omega arith
+name-length Enqueue = omega arith
+name-length Dequeue = omega arith
+name-length End = omega arith
+name-length Range = omega arith
+name-length Other = omega arith
+
+-- the columns of a row that hold numbers
+unfoldable pub columnsOf : Row → List ℕ
+columnsOf row = row .guard ∷ row .addr ∷ row .value ∷ row .old ∷ row .time ∷ row .version ∷ []
+
+-- a row's line with its line feed
+pub row-length : (row : Row) → allBelow tenDigits (columnsOf row) ≡ true → length (rowText row) ≤ 74
+unfolding rowText columnsOf
+row-length row h =
+    let rest : List ℕ = row .addr ∷ row .value ∷ row .old ∷ row .time ∷ row .version ∷ [] in
+    omega
+    (arith, length-append (opName (row .op)) (comma ∷ numbersText (row .guard) rest), name-length (row .op), numbers-length (row .guard) rest h)
+
+-- the two lines of a report
+pub report-length : (r : Report) → allBelow tenDigits (r .answer ∷ r .line ∷ r .inputs ∷ r .mults ∷ []) ≡ true → length (reportText r) ≤ 69
+unfolding reportText reportNames bytes
+report-length r h = omega (arith, numbers-length (r .answer) (r .line ∷ r .inputs ∷ r .mults ∷ []) h)
+
+-- the two lines of a refusal
+pub refusal-length : (answer line : ℕ) → allBelow tenDigits (answer ∷ line ∷ []) ≡ true → length (refusalText answer line) ≤ 34
+unfolding refusalText refusalNames bytes
+refusal-length answer line h = omega (arith, numbers-length answer (line ∷ []) h)

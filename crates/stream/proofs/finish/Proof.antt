@@ -1,0 +1,35 @@
+-- `stream::finish` meets its contract.
+-- Assumes nothing.
+use Prim.Native.Nat.{ℕ}
+use native.Mathlib.Omega.{arith}
+use mathlib.Core.Path.{_∙_, ap}
+use mathlib.Core.List.{List}
+use lib.ListN.{take, length-take}
+use Rattle.field.specs.Field.{p}
+use Rattle.memory.specs.Stream.{reading, finishOf}
+use Rattle.stream.specs.Progress.{progressOf}
+use Rattle.stream.proofs.Parts.{take-within}
+use borrow.Author.Needs.{needs}
+use Rattle.stream.proofs.finish.Statement.{statement}
+use Rattle.stream.proofs.finish.Tie as tie
+
+smaller-requires : tie.Need-smaller-requires
+smaller-requires c κs = search needs
+
+slice-aggregate-report : tie.Need-slice-aggregate-report
+slice-aggregate-report c =
+    omega (arith, length-take (c .before .smaller .result) (c .before .before .before .args .buf .now), c .before .smaller .ensures)
+
+report-requires : tie.Need-report-requires
+report-requires c κs = search needs
+
+returns : tie.Need-returns
+unfolding progressOf
+returns c =
+    let a = c .before .before .before .before .args in
+    c .report .ensures
+    ∙ ap (λ (n : ℕ). finishOf p (reading (a .progress .place) (a .progress .state) (take n (a .buf .now)))) (c .before .before .smaller .ensures)
+    ∙ ap (λ (t : List ℕ). finishOf p (reading (a .progress .place) (a .progress .state) t)) (take-within (a .progress .kept) (a .buf .now))
+
+pub finish-spec : {M : Type 1} → statement M
+finish-spec = tie.close (tie.spec smaller-requires slice-aggregate-report report-requires returns)

@@ -1,0 +1,16 @@
+-- `stream::start` meets its contract.
+-- Assumes nothing.
+use borrow.Author.Needs.{needs}
+use Rattle.stream.specs.Progress.{begun}
+use Rattle.stream.proofs.start.Statement.{statement}
+use Rattle.stream.proofs.start.Tie as tie
+
+refused-requires : tie.Need-refused-requires
+refused-requires c κs = search needs
+
+returns : tie.Need-returns
+unfolding begun
+returns c = simp (c .refused .ensures)
+
+pub start-spec : {M : Type 1} → statement M
+start-spec = tie.close (tie.spec refused-requires returns)

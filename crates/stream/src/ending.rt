@@ -1,0 +1,37 @@
+// The end of input: the last line where it is not ended, and what is printed.
+use super::line;
+use memory::Report;
+use memory::State;
+ghost use mathlib.Core.Path.{_≡_};
+ghost use mathlib.Core.List.{[]};
+ghost use Rattle.field.specs.Field.{p};
+ghost use Rattle.memory.specs.Stream.{reading, endReport, finishOf};
+
+// Where the lines end: 1 for an empty file, 7 for a missing line 2 or 3.
+fn ended(place: u32, state: State) -> Report
+    ensures { λ r. ⌜ r ≡ endReport (reading place state []) ⌝ }
+{
+    match place {
+        1 => checker::report(line::refused(1, 1)),
+        2 => checker::report(line::refused(7, 2)),
+        3 => {
+            if line::takes_rows(state) {
+                checker::report(line::refused(7, 3))
+            } else {
+                checker::report(state)
+            }
+        }
+        _ => checker::report(checker::end(state)),
+    }
+}
+
+// What is printed where the input ends after some bytes of a line: a line without its line feed is a line all the same.
+pub fn report(place: u32, state: State, rest: &[u8]) -> Report
+    ensures { λ r. ⌜ r ≡ finishOf p (reading place state (now (rest .entry))) ⌝ }
+{
+    if rest.len() == 0 {
+        return ended(place, state);
+    }
+    let last = line::line(place, state, rest, false);
+    ended(last.place, last.state)
+}

@@ -1,0 +1,125 @@
+// One whole line of a file: line 1, the value line, line 3, and the rows.
+use lines::Opened;
+use memory::Challenge;
+use memory::Context;
+use memory::Memory;
+use memory::Products;
+use memory::State;
+ghost use mathlib.Core.Path.{_≡_};
+ghost use mathlib.Core.List.{[]};
+ghost use Prim.Native.Nat.{_<_};
+ghost use Rattle.field.specs.Field.{p};
+ghost use Rattle.memory.specs.File.{parseValues};
+ghost use Rattle.memory.specs.Step.{takesRows, refusedState, openedOf};
+ghost use Rattle.memory.specs.Stream.{reading, rowNamesRead, lineOf};
+ghost use Rattle.stream.specs.Progress.{standing, namedOf};
+
+// Between two lines: the number of the next line, 4 for all rows, and the checker's state.
+pub struct Stand {
+    pub place: u32,
+    pub state: State,
+}
+
+// A state that has refused a line before the rows.
+pub fn refused(answer: u32, line: u32) -> State
+    ensures { λ r. ⌜ r ≡ refusedState answer line ⌝ }
+{
+    State {
+        context: Context {
+            memory: Memory::Ram,
+            size: 0,
+            count: 0,
+            passed: 0,
+            pushed: 0,
+            popped: 0,
+            depths: 1,
+            inputs: 0,
+            mults: 0,
+            answer,
+            line,
+            ended: false,
+        },
+        challenge: Challenge {
+            r: 0,
+            a: 0,
+            b: 0,
+            c: 0,
+        },
+        products: Products {
+            written: 1,
+            read: 1,
+            supplied: 1,
+            looked: 1,
+            enqueued: 0,
+            dequeued: 0,
+        },
+    }
+}
+
+// Whether a state takes rows: not after a refusal, nor after the end of file.
+pub fn takes_rows(state: State) -> bool
+    ensures { λ r. ⌜ r ≡ takesRows (state .context) ⌝ }
+{
+    let c = state.context;
+    !c.ended & (c.answer == 0)
+}
+
+// A names line by its fault, or 0: the next line follows, or the file is refused on this one.
+fn named(place: u32, state: State, fault: u32) -> Stand
+    requires { ⌜ place < 4 ⌝ }
+    ensures { λ r. ⌜ standing r ≡ namedOf place state fault ⌝ }
+{
+    if fault == 0 {
+        return Stand {
+            place: place + 1,
+            state,
+        };
+    }
+    Stand {
+        place: 4,
+        state: refused(fault, place),
+    }
+}
+
+// The state that the value line makes.
+fn opened(text: &[u8], ended: bool) -> State
+    ensures { λ r. ⌜ r ≡ openedOf p (parseValues p (record { text = now (text .entry); ended = ended })) ⌝ }
+{
+    match lines::value_line(text, ended) {
+        Opened::Opens {
+            memory,
+            size,
+            count,
+            challenge,
+        } => checker::fresh(memory, size, count, challenge),
+        Opened::Shut(fault) => refused(fault, 2),
+    }
+}
+
+// Line 3: where the value line was refused, the file keeps that answer.
+fn row_names(state: State, text: &[u8], ended: bool) -> Stand
+    ensures { λ r. ⌜ standing r ≡ rowNamesRead state (record { text = now (text .entry); ended = ended }) ⌝ }
+{
+    if !takes_rows(state) {
+        return Stand { place: 4, state };
+    }
+    named(3, state, lines::row_names_line(text, ended))
+}
+
+// Any line.
+pub fn line(place: u32, state: State, text: &[u8], ended: bool) -> Stand
+    ensures { λ r. ⌜ standing r ≡ lineOf p (reading place state []) (record { text = now (text .entry); ended = ended }) ⌝ }
+{
+    match place {
+        1 => named(1, state, lines::value_names_line(text, ended)),
+        2 => Stand {
+            place: 3,
+            state: opened(text, ended),
+        },
+        3 => row_names(state, text, ended),
+        _ => Stand {
+            place: 4,
+            state: checker::step(state, lines::row_line(text, ended)),
+        },
+    }
+}
