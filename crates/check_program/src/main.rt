@@ -1,6 +1,7 @@
 // The program `check`: reads standard input to its end and prints the two lines of the report. A failed read is told on standard error, with nothing on
 // standard output.
-use libc::{STDIN_FILENO, STDOUT_FILENO};
+use libc::STDIN_FILENO;
+use libc::STDOUT_FILENO;
 use stream::Progress;
 
 // The buffer: the most bytes of an unfinished line that are kept, and a block of 64 KiB behind them.
