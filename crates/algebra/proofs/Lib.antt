@@ -17,3 +17,4 @@ pub mod Average
 pub mod Factor
 pub mod Shuffle
 mod SmallCounts
+pub mod Promises

@@ -7,3 +7,4 @@ pub mod Multiset
 pub mod Shuffle
 pub mod Hash
 pub mod Statements
+pub mod Promises

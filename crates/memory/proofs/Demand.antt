@@ -62,7 +62,7 @@ well-sized q m n t lines e = go (allBelow q (n ∷ t ∷ [])) (allowed m n t) _ 
     go false b c e = absurd (true≢false e)
 
 -- a size that is allowed is at most the limit
-sized-limit : (m : Memory) (n : ℕ) → sized m n ≡ true → n ≤ limit
+pub sized-limit : (m : Memory) (n : ℕ) → sized m n ≡ true → n ≤ limit
 unfolding sized limit
 sized-limit Ram n e = leb-true n limit e
 sized-limit Rom n e = leb-true n limit e
@@ -71,7 +71,7 @@ sized-limit Stack n e = omega (arith, eqb-true n 0 e)
 sized-limit Queue n e = omega (arith, eqb-true n 0 e)
 
 -- what is allowed is at most the limit
-allowed-sized : (m : Memory) (n t : ℕ) → allowed m n t ≡ true → (sized m n ≡ true) × (t ≤ limit)
+pub allowed-sized : (m : Memory) (n t : ℕ) → allowed m n t ≡ true → (sized m n ≡ true) × (t ≤ limit)
 unfolding allowed
 allowed-sized m n t e = let parts = both-pass (sized m n) (leb t limit) e in (parts .0, leb-true t limit (parts .1))
 

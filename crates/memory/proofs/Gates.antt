@@ -25,7 +25,7 @@ use Rattle.memory.proofs.ReadRows.{both-pass}
 use Rattle.memory.proofs.Phases.{DueRows, Parts, only-op, parts-raised, lines-parts}
 
 -- the sum over the rows of a number by op
-tally : (Op → ℕ) → List Row → ℕ
+unfoldable pub tally : (Op → ℕ) → List Row → ℕ
 tally f [] = 0
 tally f (row ∷ rows) = f (row .op) + tally f rows
 
@@ -47,7 +47,7 @@ tally-mults m [] = refl
 tally-mults m (row ∷ rows) = ap (λ (k : ℕ). rowMults m (row .op) + k) (tally-mults m rows)
 
 -- 1 at one op, 0 at the others
-oneOf : Op → Op → ℕ
+unfoldable pub oneOf : Op → Op → ℕ
 oneOf o x = cond (isOp x o) 1 0
 
 tally-with : (o : Op) (rows : List Row) → rowsWith o rows ≡ tally (oneOf o) rows
@@ -104,7 +104,7 @@ unfolding takes isOp opCode
 parts-takes q m n t rows p = ap₂ _+_ (with-parts Pop q m n t rows p refl refl refl) (with-parts Dequeue q m n t rows p refl refl refl)
 
 -- the same where the operations have one op
-parts-only : (f : Op → ℕ) (q : ℕ) (m : Memory) (n t : ℕ) (x : Op) (rows : List Row) (p : Parts q m n t rows) → opsDue m Operating ≡ x ∷ []
+pub parts-only : (f : Op → ℕ) (q : ℕ) (m : Memory) (n t : ℕ) (x : Op) (rows : List Row) (p : Parts q m n t rows) → opsDue m Operating ≡ x ∷ []
     → tally f rows ≡ n * f Init + (t * f x + (length (p .ends) * f End + rangesDue m t * f Range))
 parts-only f q m n t x rows p only =
     omega (arith, tally-parts f q m n t rows p, tally-only f m Operating x (p .ops) only (p .operating) ∙ ap (λ (k : ℕ). k * f x) (p .count))
@@ -140,12 +140,12 @@ unfolding Split oneOf isOp opCode
 queue-dequeue f = omega arith
 
 -- a sum over the rows of a stack and of a queue
-stack-tally : (f : Op → ℕ) (q n t : ℕ) (rows : List Row) (p : Parts q Stack n t rows)
+pub stack-tally : (f : Op → ℕ) (q n t : ℕ) (rows : List Row) (p : Parts q Stack n t rows)
     → tally f rows ≡ n * f Init + (tally (oneOf Push) (p .ops) * f Push + tally (oneOf Pop) (p .ops) * f Pop + (length (p .ends) * f End + t * f Range))
 unfolding opsDue rangesDue
 stack-tally f q n t rows p = parts-two f q Stack n t Push Pop rows p refl (stack-push f) (stack-pop f)
 
-queue-tally : (f : Op → ℕ) (q n t : ℕ) (rows : List Row) (p : Parts q Queue n t rows)
+pub queue-tally : (f : Op → ℕ) (q n t : ℕ) (rows : List Row) (p : Parts q Queue n t rows)
     → tally f rows ≡ n * f Init + (tally (oneOf Enqueue) (p .ops) * f Enqueue + tally (oneOf Dequeue) (p .ops) * f Dequeue + (length (p .ends) * f End + 0 * f Range))
 unfolding opsDue rangesDue
 queue-tally f q n t rows p = parts-two f q Queue n t Enqueue Dequeue rows p refl (queue-enqueue f) (queue-dequeue f)

@@ -88,7 +88,7 @@ filled-balances q m n t inits ops ch prime room size count u =
     balancing-balances q ch (fileLists q m n t (filledRows m t inits ops)) (filled-balancing q m n t inits ops prime room size count u)
 
 -- Rows of the four phases have ops of document 01, so lines that read as them read as no fault.
-other-not-due : (m : Memory) (p : Phase) → opIn Other (opsDue m p) ≡ false
+pub other-not-due : (m : Memory) (p : Phase) → opIn Other (opsDue m p) ≡ false
 unfolding opIn opsDue isOp opCode
 other-not-due m Starting = refl
 other-not-due Ram Operating = refl
@@ -168,7 +168,7 @@ unfolding malformed
 well-sized q m n t lines e =
     both-pass (allBelow q (n ∷ t ∷ [])) (allowed m n t) (not-false (allBelow q (n ∷ t ∷ []) && allowed m n t) (neither (not (allBelow q (n ∷ t ∷ []) && allowed m n t)) _ e))
 
-values-pass : (q : ℕ) (m : Memory) (n t : ℕ) (ch : Challenge) → allBelow q (n ∷ t ∷ []) ≡ true → allowed m n t ≡ true
+pub values-pass : (q : ℕ) (m : Memory) (n t : ℕ) (ch : Challenge) → allBelow q (n ∷ t ∷ []) ≡ true → allowed m n t ≡ true
     → allBelow q (ch .r ∷ ch .a ∷ ch .b ∷ ch .c ∷ []) ≡ true
     → valuesFault q m n t ch ≡ 0
 unfolding valuesFault allBelow

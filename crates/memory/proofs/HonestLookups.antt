@@ -36,7 +36,7 @@ unfolding occurrences
 occurs-other x y ys e = omega (arith, ap {B = ℕ} (λ b. cond b 1 0) e)
 
 -- a key occurs no more often than there are keys
-occurs-at-most : (x : ℕ) (ys : List ℕ) → occurrences x ys ≤ length ys
+pub occurs-at-most : (x : ℕ) (ys : List ℕ) → occurrences x ys ≤ length ys
 unfolding occurrences
 occurs-at-most x [] = omega arith
 occurs-at-most x (y ∷ ys) = omega (arith, at-most-one (eqb x y), occurs-at-most x ys)

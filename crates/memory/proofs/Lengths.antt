@@ -24,7 +24,7 @@ both-true true b e = (refl, e)
 both-true false b e = let z : _≡_ {A = ℕ} 0 1 = cc in absurd (omega arith)
 
 -- a line of numbers: 10 digits and a comma or the line feed for each
-numbers-length : (x : ℕ) (ys : List ℕ) → allBelow tenDigits (x ∷ ys) ≡ true → length (numbersText x ys) ≤ 11 + 11 * length ys
+pub numbers-length : (x : ℕ) (ys : List ℕ) → allBelow tenDigits (x ∷ ys) ≡ true → length (numbersText x ys) ≤ 11 + 11 * length ys
 unfolding numbersText allBelow
 numbers-length x [] h =
     let digits = number-length x (ltb-true x tenDigits (both-true (ltb x tenDigits) true h .0)) in

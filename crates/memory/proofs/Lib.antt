@@ -39,3 +39,8 @@ pub mod Stream
 pub mod Decimal
 pub mod Lengths
 pub mod RoundTrip
+pub mod FilledBelow
+pub mod HonestFile
+pub mod FilledFile
+pub mod Factors
+pub mod Promises

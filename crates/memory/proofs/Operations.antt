@@ -67,6 +67,14 @@ pub isOp-true : (x y : Op) → isOp x y ≡ true → x ≡ y
 unfolding isOp
 isOp-true x y e = sym (op-of-code x) ∙ (ap opOfCode (eqb-true (opCode x) (opCode y) e) ∙ op-of-code y)
 
+-- an op that is among some is none that is not
+pub not-among : (os : List Op) (x y : Op) → opIn y os ≡ false → opIn x os ≡ true → isOp x y ≡ false
+not-among os x y none due = go (isOp x y) refl
+  where
+    go : (b : Bool) → isOp x y ≡ b → b ≡ false
+    go true e = absurd (false≢true (sym none ∙ (ap (λ (k : Op). opIn k os) (sym (isOp-true x y e)) ∙ due)))
+    go false e = refl
+
 -- a guard of at most 1 is 0 or 1
 guard-cases : (P : ℕ → Type 0) → P 1 → P 0 → (g : ℕ) → g ≤ 1 → P g
 guard-cases P one none zero h = none

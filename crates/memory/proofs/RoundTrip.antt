@@ -22,7 +22,7 @@ use Rattle.memory.proofs.Decimal.{tenDigits, number-digits, number-valu
 use Rattle.memory.proofs.Lengths.{both-true, columnsOf, row-length}
 
 -- a text whose bytes are all above c: a field's are above the comma, a line's above the line feed
-above : ℕ → List ℕ → Bool
+unfoldable pub above : ℕ → List ℕ → Bool
 above c [] = true
 above c (b ∷ bs) = ltb c b && above c bs
 
@@ -74,7 +74,7 @@ above-other : (c b : ℕ) → c < b → eqb b c ≡ false
 above-other c b h = ne-eqb b c (λ e. omega arith)
 
 -- a text up to its first line feed is its first line
-line-first : (text rest : List ℕ) → above feed text ≡ true → linesOf (text ++ feed ∷ rest) ≡ record { text = text; ended = true } ∷ linesOf rest
+pub line-first : (text rest : List ℕ) → above feed text ≡ true → linesOf (text ++ feed ∷ rest) ≡ record { text = text; ended = true } ∷ linesOf rest
 unfolding linesOf before feed
 line-first [] rest p = refl
 line-first (b ∷ bs) rest p =
@@ -82,7 +82,7 @@ line-first (b ∷ bs) rest p =
     simp (above-other feed b (parts .0), line-first bs rest (parts .1))
 
 -- a text up to its first comma is its first field
-field-first : (text rest : List ℕ) → above comma text ≡ true → fields (text ++ comma ∷ rest) ≡ text ∷ fields rest
+pub field-first : (text rest : List ℕ) → above comma text ≡ true → fields (text ++ comma ∷ rest) ≡ text ∷ fields rest
 unfolding fields onto comma
 field-first [] rest p = refl
 field-first (b ∷ bs) rest p =
@@ -97,21 +97,21 @@ field-last (b ∷ bs) p =
     simp (above-other comma b (parts .0), field-last bs (parts .1))
 
 -- a field with numbers after it, commas between
-joined : List ℕ → List ℕ → List ℕ
+unfoldable pub joined : List ℕ → List ℕ → List ℕ
 joined f [] = f
 joined f (n ∷ ns) = f ++ comma ∷ joined (numberText n) ns
 
 number-above : (n : ℕ) → above comma (numberText n) ≡ true
 number-above n = digits-above (numberText n) (number-digits n)
 
-joined-fields : (f : List ℕ) (ns : List ℕ) → above comma f ≡ true → fields (joined f ns) ≡ f ∷ map numberText ns
+pub joined-fields : (f : List ℕ) (ns : List ℕ) → above comma f ≡ true → fields (joined f ns) ≡ f ∷ map numberText ns
 unfolding joined
 joined-fields f [] p = field-last f p
 joined-fields f (n ∷ ns) p =
     field-first f (joined (numberText n) ns) p
     ∙ ap (λ (fs : List (List ℕ)). f ∷ fs) (joined-fields (numberText n) ns (number-above n))
 
-joined-above : (f : List ℕ) (ns : List ℕ) → above comma f ≡ true → above feed (joined f ns) ≡ true
+pub joined-above : (f : List ℕ) (ns : List ℕ) → above comma f ≡ true → above feed (joined f ns) ≡ true
 unfolding joined comma feed
 joined-above f [] p = above-less 10 44 f (omega arith) p
 joined-above f (n ∷ ns) p =
@@ -119,14 +119,14 @@ joined-above f (n ∷ ns) p =
     (above-cons 10 44 (joined (numberText n) ns) (omega arith) (joined-above (numberText n) ns (number-above n)))
 
 -- the numbers of the fields
-numbers-back : (ns : List ℕ) → allBelow tenDigits ns ≡ true → numbers (map numberText ns) ≡ ns
+pub numbers-back : (ns : List ℕ) → allBelow tenDigits ns ≡ true → numbers (map numberText ns) ≡ ns
 unfolding numbers allBelow
 numbers-back [] h = refl
 numbers-back (n ∷ ns) h =
     let parts = both-true (ltb n tenDigits) (allBelow tenDigits ns) h in
     ap₂ (λ (x : ℕ) (xs : List ℕ). x ∷ xs) (number-value n (ltb-true n tenDigits (parts .0))) (numbers-back ns (parts .1))
 
-numerals-back : (ns : List ℕ) → allBelow tenDigits ns ≡ true → numerals (map numberText ns) ≡ true
+pub numerals-back : (ns : List ℕ) → allBelow tenDigits ns ≡ true → numerals (map numberText ns) ≡ true
 unfolding numerals allBelow
 numerals-back [] h = refl
 numerals-back (n ∷ ns) h =
@@ -140,7 +140,7 @@ lineText row = joined (opName (row .op)) (columnsOf row)
 unfoldable pub lineOf : Row → Line
 lineOf row = record { text = lineText row; ended = true }
 
-numbers-line : (x : ℕ) (ys : List ℕ) → numbersText x ys ≡ joined (numberText x) ys ++ feed ∷ []
+pub numbers-line : (x : ℕ) (ys : List ℕ) → numbersText x ys ≡ joined (numberText x) ys ++ feed ∷ []
 unfolding numbersText joined
 numbers-line x [] = refl
 numbers-line x (y ∷ ys) =
@@ -175,7 +175,7 @@ pub record Printable (q : ℕ) (row : Row) : Type 0 where
   pub named : isOp (row .op) Other ≡ false
   pub small : allBelow q (columnsOf row) ≡ true
 
-allBelow-more : (q r : ℕ) (ns : List ℕ) → q ≤ r → allBelow q ns ≡ true → allBelow r ns ≡ true
+pub allBelow-more : (q r : ℕ) (ns : List ℕ) → q ≤ r → allBelow q ns ≡ true → allBelow r ns ≡ true
 unfolding allBelow
 allBelow-more q r [] h e = refl
 allBelow-more q r (n ∷ ns) h e =

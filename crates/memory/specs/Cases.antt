@@ -1,14 +1,18 @@
 -- The cases of document 01 that it marks P: files and what is printed for each.
 -- Assumes nothing.
+use Prim.Native.Nat.{ℕ}
 use Prim.Native.String.{String}
-use mathlib.Core.Bool.{Bool, true, _&&_}
+use mathlib.Core.Bool.{Bool, true, false, _&&_}
 use mathlib.Core.List.{List, [], _∷_, _++_}
 use lib.Dec.{T}
+use lib.ListN.{getD, drop}
 use Rattle.field.specs.Field.{p}
+use Rattle.memory.specs.declared.Row.{Row}
 use Rattle.memory.specs.Text.{bytes}
-use Rattle.memory.specs.Bytes.{same, feed}
+use Rattle.memory.specs.Bytes.{Line, same, feed, linesOf}
 use Rattle.memory.specs.Names.{reportNames}
-use Rattle.memory.specs.File.{fileReport}
+use Rattle.memory.specs.Equations.{product, fileLists}
+use Rattle.memory.specs.File.{rowsOf, parseRows, Opening, opens, shut, parseValues, fileReport}
 use Rattle.memory.specs.Print.{reportText}
 
 -- A file, and the second line that is printed for it: answer, line, inputs, multiplications
@@ -19,10 +23,14 @@ pub record Case : Type 0 where
 unfoldable pub case : String → String → Case
 case f l = record { file = f; printed = l }
 
+-- the ram of section "Files"
+unfoldable pub ramCase : Case
+ramCase =
+    case "memory,size,count,r,a,b,c\nram,2,2,100,1,2,3\nop,guard,addr,value,old,time,version\ninit,0,0,5,0,0,0\ninit,0,0,9,0,0,0\naccess,1,0,7,5,0,0\naccess,0,0,0,7,1,1\nend,0,0,0,7,2,0\nend,0,0,0,9,0,0\nrange,0,0,0,0,0,2\nrange,0,0,0,0,0,0\n" "0,0,12,16"
+
 unfoldable pub cases : List Case
 cases =
-    -- the ram of section "Files"
-    case "memory,size,count,r,a,b,c\nram,2,2,100,1,2,3\nop,guard,addr,value,old,time,version\ninit,0,0,5,0,0,0\ninit,0,0,9,0,0,0\naccess,1,0,7,5,0,0\naccess,0,0,0,7,1,1\nend,0,0,0,7,2,0\nend,0,0,0,9,0,0\nrange,0,0,0,0,0,2\nrange,0,0,0,0,0,0\n" "0,0,12,16"
+    ramCase
     -- line 7's old made 5
     ∷ case "memory,size,count,r,a,b,c\nram,2,2,100,1,2,3\nop,guard,addr,value,old,time,version\ninit,0,0,5,0,0,0\ninit,0,0,9,0,0,0\naccess,1,0,7,5,0,0\naccess,0,0,0,5,1,1\nend,0,0,0,7,2,0\nend,0,0,0,9,0,0\nrange,0,0,0,0,0,2\nrange,0,0,0,0,0,0\n" "10,11,0,0"
     -- with challenge 100,0,0,0 as well: one of the counted challenges
@@ -62,3 +70,19 @@ allReported (c ∷ cs) = reported c && allReported cs
 -- The table's one fact. (Cases: cases-hold)
 abbrev pub CasesHold : Type 0
 CasesHold = T (allReported cases)
+
+-- the products of a file's lists: of the records written and read, and of the range's pairs written and read
+unfoldable pub openedProducts : ℕ → Opening → List Row → List ℕ
+openedProducts q (opens m n t ch) rows =
+    let l = fileLists q m n t rows in
+    product q ch (l .written) ∷ product q ch (l .read) ∷ product q ch (l .supplied) ∷ product q ch (l .looked) ∷ []
+openedProducts q (shut f) rows = []
+
+unfoldable pub productsOf : ℕ → List Line → List ℕ
+productsOf q lines =
+    openedProducts q (parseValues q (getD lines 1 (record { text = []; ended = false }))) (rowsOf (parseRows q (drop 3 lines)))
+
+-- "Memory products 48405600, range 89403930." (Cases: ram-products)
+abbrev pub RamProducts : Type 0
+RamProducts =
+    T (same (productsOf p (linesOf (bytes (ramCase .file)))) (48405600 ∷ 48405600 ∷ 89403930 ∷ 89403930 ∷ []))

@@ -1,8 +1,9 @@
 -- Section "Gates of an accepted file" of document 01: by counting over the rows, and by the formulas of its table.
 -- Assumes nothing.
 use Prim.Native.Nat.{ℕ, zero, suc, _+_, _-_, _*_}
-use mathlib.Core.Bool.{Bool, true, false, cond}
+use mathlib.Core.Bool.{Bool, true, false, _&&_, cond}
 use mathlib.Core.List.{List, [], _∷_, _++_}
+use lib.Dec.{eqb}
 use lib.ListN.{length}
 use Rattle.memory.specs.declared.Memory.{Memory}
 use Rattle.memory.specs.declared.Memory.the-variants.{Ram, Rom, Set, Stack, Queue}
@@ -70,6 +71,20 @@ inputsOf m (row ∷ rows) = rowInputs m (row .op) + inputsOf m rows
 unfoldable pub multsOf : Memory → List Row → ℕ
 multsOf m [] = 0
 multsOf m (row ∷ rows) = rowMults m (row .op) + multsOf m rows
+
+-- the factors of a list of rows, and their hash steps
+unfoldable pub factorsOf : Memory → List Row → ℕ
+factorsOf m [] = 0
+factorsOf m (row ∷ rows) = rowCosts m (row .op) .factors + factorsOf m rows
+
+unfoldable pub hashesOf : Memory → List Row → ℕ
+hashesOf m [] = 0
+hashesOf m (row ∷ rows) = rowCosts m (row .op) .hashes + hashesOf m rows
+
+-- how many rows of an op are skipped: their guard is 0
+unfoldable pub skippedWith : Op → List Row → ℕ
+skippedWith o [] = 0
+skippedWith o (row ∷ rows) = cond (isOp (row .op) o && eqb (row .guard) 0) 1 0 + skippedWith o rows
 
 -- how many rows have an op: P and Q "are the counts of push and pop, or enqueue and dequeue rows, skipped ones too"
 unfoldable pub rowsWith : Op → List Row → ℕ

@@ -15,3 +15,4 @@ pub mod Print
 pub mod Stream
 pub mod FillFile
 pub mod Cases
+pub mod Promises

@@ -4,10 +4,12 @@ use Prim.Native.Nat.{ℕ, zero, suc, _+_, _/_, _%_}
 use mathlib.Core.Bool.{cond}
 use mathlib.Core.List.{List, [], _∷_, _++_}
 use lib.Dec.{ltb}
+use Rattle.memory.specs.declared.Memory.{Memory}
 use Rattle.memory.specs.declared.Row.{Row}
+use Rattle.memory.specs.declared.Challenge.{Challenge}
 use Rattle.memory.specs.declared.Report.{Report}
 use Rattle.memory.specs.Bytes.{comma, feed}
-use Rattle.memory.specs.Names.{opName, rowNames, reportNames, refusalNames}
+use Rattle.memory.specs.Names.{valueNames, memoryName, opName, rowNames, reportNames, refusalNames}
 
 -- "Numbers are unsigned decimal": the digits of n before the bytes `rest`, for a number of at most `most` digits
 unfoldable pub digitsOnto : ℕ → ℕ → List ℕ → List ℕ
@@ -46,3 +48,8 @@ refusalText answer line = refusalNames ++ feed ∷ numbersText answer (line ∷ 
 -- "Output: the file from line 3 on."
 unfoldable pub filledText : List Row → List ℕ
 filledText rows = rowNames ++ feed ∷ rowsText rows
+
+-- lines 1 and 2 of a file: the names, then memory, size, count and challenge
+unfoldable pub headerText : Memory → ℕ → ℕ → Challenge → List ℕ
+headerText m n t ch =
+    valueNames ++ feed ∷ (memoryName m ++ comma ∷ numbersText n (t ∷ ch .r ∷ ch .a ∷ ch .b ∷ ch .c ∷ []))

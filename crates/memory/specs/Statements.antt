@@ -2,27 +2,31 @@
 -- Assumes nothing.
 use Prim.Native.Nat.{ℕ, zero, suc, _+_, _-_, _*_, _^_, _≤_, _<_}
 use mathlib.Core.Path.{_≡_}
-use mathlib.Core.Logic.{_↔_}
+use mathlib.Core.Logic.{_↔_, _⊎_}
 use mathlib.Core.Bool.{Bool, true, false}
 use mathlib.Core.List.{List, [], _∷_, _++_, map}
-use lib.ListN.{length, take, drop}
+use lib.ListN.{length, getD, take, drop}
 use Rattle.algebra.specs.Prime.{Prime}
 use Rattle.field.specs.Field.{p}
 use Rattle.memory.specs.declared.Memory.{Memory}
+use Rattle.memory.specs.declared.Op.the-variants.{Push, Pop, Enqueue, Dequeue}
 use Rattle.memory.specs.declared.Row.{Row}
 use Rattle.memory.specs.declared.Parsed.{Parsed}
 use Rattle.memory.specs.declared.Parsed.the-variants.{Sound}
 use Rattle.memory.specs.declared.Challenge.{Challenge}
 use Rattle.memory.specs.declared.State.{State}
-use Rattle.memory.specs.Bytes.{Line, allBelow}
-use Rattle.memory.specs.Rows.{allowed, raised, lowered}
+use Rattle.memory.specs.declared.Report.{Report}
+use Rattle.memory.specs.Bytes.{Line, allBelow, linesOf}
+use Rattle.memory.specs.Rows.{allowed, raised, lowered, rangesDue}
 use Rattle.memory.specs.Equations.{fileLists, rangeBalances, memoryBalances}
-use Rattle.memory.specs.Gates.{inputsOf, multsOf, inputsFormula, multsFormula, puts, takes}
+use Rattle.memory.specs.Gates.{inputsOf, multsOf, factorsOf, hashesOf, skippedWith, inputsFormula, multsFormula, puts, takes}
 use Rattle.memory.specs.File.{firstFault, refusal, parseRows, valuesFault, valuesReport, fileReport}
 use Rattle.memory.specs.Plain.{right, traceOf}
-use Rattle.memory.specs.Honest.{inputOf, filledRows}
+use Rattle.memory.specs.Honest.{Input, inputOf, filledRows}
 use Rattle.memory.specs.Step.{takesRows, stepOf, rowOf, endOf, runOf, freshOf, reportOf}
 use Rattle.memory.specs.Filler.{rowsFault}
+use Rattle.memory.specs.Print.{rowsText, refusalText, filledText, headerText}
+use Rattle.memory.specs.FillFile.{job, parseJob, parseInput, inputsOfLines, fillText}
 use Rattle.memory.specs.Stream.{Reading, unread, bytesOf, finishOf}
 use Rattle.memory.specs.Bound.{accepts, challenges, malformed, degree, rowsIn, traceIn, Advised}
 
@@ -61,6 +65,25 @@ GatesByFormula =
     → let rows = rowsIn q lines in
     (inputsOf m rows ≡ inputsFormula m n t (puts rows) (takes rows) (raised rows - lowered rows))
     × (multsOf m rows ≡ multsFormula m n t (puts rows) (takes rows) (raised rows - lowered rows))
+
+-- "Every factor costs one multiplication, except the range's public setup, which is free": of complete and well-formed rows the factors that are counted, and the
+-- setup's, are the records of the equations' lists, and a factor 1 for each push or pop that its guard skips. (Factors: factors-counted)
+abbrev pub FactorsCounted : Type 0
+FactorsCounted =
+    (q : ℕ) (m : Memory) (n t : ℕ) (lines : List Line) → allowed m n t ≡ true → firstFault q m n t [] (parseRows q lines) .number ≡ 0
+    → let rows = rowsIn q lines in
+    let l = fileLists q m n t rows in
+    factorsOf m rows + rangesDue m t
+    ≡ length (l .written) + length (l .read) + (length (l .supplied) + length (l .looked)) + (skippedWith Push rows + skippedWith Pop rows)
+
+-- "So does … each hash step": the hash steps that are counted are the elements of the equations' hashes, and a step for each enqueue or dequeue that its guard
+-- skips. (Factors: hashes-counted)
+abbrev pub HashesCounted : Type 0
+HashesCounted =
+    (q : ℕ) (m : Memory) (n t : ℕ) (lines : List Line) → firstFault q m n t [] (parseRows q lines) .number ≡ 0
+    → let rows = rowsIn q lines in
+    let l = fileLists q m n t rows in
+    hashesOf m rows ≡ length (l .enqueued) + length (l .dequeued) + (skippedWith Enqueue rows + skippedWith Dequeue rows)
 
 -- Demand 3, for one list of rows: "incomplete or malformed, no challenge accepts; else if the trace is wrong, whatever the advice, at most 2·m·p³ of the p⁴
 -- challenges accept; and if it is right and the advice is the filler's, all p⁴ do"
@@ -114,3 +137,60 @@ StreamCut = (q : ℕ) (v : Reading) (xs ys : List ℕ) → bytesOf q v (xs ++ ys
 -- A file read byte by byte, up to its end, gives what `check` prints for it. (Stream: stream-is-file)
 abbrev pub StreamIsFile : Type 0
 StreamIsFile = (q : ℕ) (bytes : List ℕ) → 2 ≤ q → finishOf q (bytesOf q unread bytes) ≡ fileReport q bytes
+
+-- What the filler writes is accepted. Init rows and operations that it fills: size and count are allowed, there are as many, and it refuses none of them
+pub record Fillable (m : Memory) (n t : ℕ) (inits ops : List Input) : Type 0 where
+  pub fit : allowed m n t ≡ true
+  pub size : length inits ≡ n
+  pub count : length ops ≡ t
+  pub unrefused : rowsFault p m (map (λ i. i .value) inits) 1 inits ops .number ≡ 0
+
+-- the report of accepted rows: answer 0, line 0, and inputs and multiplications by document 01's table
+unfoldable pub acceptance : Memory → ℕ → ℕ → List Row → Report
+acceptance m n t rows = record {
+  answer = 0;
+  line = 0;
+  inputs = inputsFormula m n t (puts rows) (takes rows) (raised rows - lowered rows);
+  mults = multsFormula m n t (puts rows) (takes rows) (raised rows - lowered rows);
+}
+
+-- The bytes that the filler writes, behind both lines of the header with any challenge, are a file that is accepted. (HonestFile: honest-file-accepted)
+abbrev pub HonestFileAccepted : Type 0
+HonestFileAccepted =
+    (m : Memory) (n t : ℕ) (inits ops : List Input) (ch : Challenge) → Fillable m n t inits ops
+    → allBelow p (ch .r ∷ ch .a ∷ ch .b ∷ ch .c ∷ []) ≡ true
+    → let rows = filledRows m t inits ops in fileReport p (headerText m n t ch ++ filledText rows) ≡ acceptance m n t rows
+
+-- The same of its rows handed one call at a time to a fresh state of any challenge. (HonestFile: honest-run-accepted)
+abbrev pub HonestRunAccepted : Type 0
+HonestRunAccepted =
+    (m : Memory) (n t : ℕ) (inits ops : List Input) (ch : Challenge) → Fillable m n t inits ops
+    → allBelow p (ch .r ∷ ch .a ∷ ch .b ∷ ch .c ∷ []) ≡ true
+    → let rows = filledRows m t inits ops in
+    reportOf (endOf (runOf p (freshOf p m n t ch) (linesOf (rowsText rows)))) ≡ acceptance m n t rows
+
+-- The filling program, for any input: it prints a refusal,
+pub record FillRefused (bytes : List ℕ) : Type 0 where
+  pub number : ℕ
+  pub line : ℕ
+  pub fault : 1 ≤ number
+  pub printed : fillText p bytes ≡ refusalText number line
+
+-- or the file from line 3 on, of the memory, size and count of its value line and of its rows; and behind the header with any challenge that is accepted
+pub record FillAccepted (bytes : List ℕ) : Type 0 where
+  pub memory : Memory
+  pub size : ℕ
+  pub count : ℕ
+  pub inits : List Input
+  pub ops : List Input
+  pub asked : parseJob p (getD (linesOf bytes) 1 (record { text = []; ended = false })) ≡ job memory size count
+  pub given : inputsOfLines (map (parseInput p) (drop 3 (linesOf bytes))) ≡ inits ++ ops
+  pub fillable : Fillable memory size count inits ops
+  pub printed : fillText p bytes ≡ filledText (filledRows memory count inits ops)
+  pub accepted :
+      (ch : Challenge) → allBelow p (ch .r ∷ ch .a ∷ ch .b ∷ ch .c ∷ []) ≡ true
+      → fileReport p (headerText memory size count ch ++ fillText p bytes) ≡ acceptance memory size count (filledRows memory count inits ops)
+
+-- (FilledFile: filling-accepted)
+abbrev pub FillingAccepted : Type 0
+FillingAccepted = (bytes : List ℕ) → FillRefused bytes ⊎ FillAccepted bytes

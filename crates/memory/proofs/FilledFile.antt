@@ -1,0 +1,245 @@
+-- What the filling program prints, for any input: a refusal, or rows that are accepted behind the header of their memory, size and count at every challenge.
+-- Assumes nothing.
+use Prim.Native.Nat.{ℕ, suc, _+_, _≤_}
+use native.Mathlib.Omega.{arith}
+use mathlib.Core.Path.{_≡_, refl, sym, _∙_, ap}
+use mathlib.Core.Logic.{_⊎_, inl, inr}
+use mathlib.Core.Bool.{Bool, true, false, _&&_, cond}
+use mathlib.Core.Option.{Option, none, some}
+use mathlib.Core.List.{List, [], _∷_, _++_, map}
+use lib.Dec.{eqb, leb, ltb}
+use lib.ListN.{length, getD, take, drop, length-append, take-append-drop, length-drop}
+use lib.Seq.{length-take-le}
+use borrow.Author.Tests.{eqb-true, eqb-false, ltb-true, ltb-false}
+use Rattle.field.specs.Field.{p}
+use Rattle.memory.specs.declared.Memory.{Memory}
+use Rattle.memory.specs.Bytes.{Line, fitting, fields, numerals, numbers, allBelow, linesOf}
+use Rattle.memory.specs.Names.{fillNames, inputNames, memoryNamed}
+use Rattle.memory.specs.Rows.{allowed}
+use Rattle.memory.specs.File.{Refusal, refusal, namesFault, fileReport}
+use Rattle.memory.specs.Honest.{Input, filledRows}
+use Rattle.memory.specs.Filler.{Placed, rowsFault}
+use Rattle.memory.specs.Print.{refusalText, filledText, headerText}
+use Rattle.memory.specs.FillFile.{fillLimit, fillAllowed, Job, job, noJob, jobOf, jobOfFields, parseJob, InputLine, sound, faulty, inputOfFields, parseInput, inputLineFault, inputsFault, inputOfLine, inputsOfLines, runText, inputsText, jobText, jobLinesText, fillLinesText, fillText}
+use Rattle.memory.specs.Statements.{Fillable, FillAccepted, FillingAccepted}
+use Rattle.memory.proofs.ReadRows.{both-pass, chosen-zero}
+use Rattle.memory.proofs.HonestLookups.{All}
+use Rattle.memory.proofs.FilledBelow.{decided}
+use Rattle.memory.proofs.HonestFile.{honest-file-accepted}
+
+-- A value line reads as a size and count that are allowed, or as a fault.
+abbrev GoodJob : Job → Type 0
+GoodJob (job m n t) = allowed m n t ≡ true
+GoodJob (noJob f) = 1 ≤ f
+
+good-job-of : (k : Option Memory) (n t : ℕ) → GoodJob (jobOf k n t)
+unfolding jobOf fillAllowed
+good-job-of none n t = omega arith
+good-job-of (some m) n t =
+    decided GoodJob (fillAllowed m n t) (λ e. both-pass (allowed m n t) (leb n fillLimit && leb t fillLimit) e .0) (omega arith)
+
+good-job : (q : ℕ) (line : Line) → GoodJob (parseJob q line)
+unfolding parseJob jobOfFields
+good-job q line =
+    decided GoodJob (fitting line)
+    (λ fit. decided GoodJob (eqb (length (fields (line .text))) 3)
+    (λ three. decided GoodJob (numerals (drop 1 (fields (line .text))))
+    (λ all. decided GoodJob (allBelow q (numbers (drop 1 (fields (line .text)))))
+    (λ below. good-job-of (memoryNamed (getD (fields (line .text)) 0 [])) _ _)
+    (omega arith))
+    (omega arith))
+    (omega arith))
+    (omega arith)
+
+-- A row line reads as a row, or as a fault.
+abbrev GoodLine : InputLine → Type 0
+GoodLine (sound i) = Unit {0}
+GoodLine (faulty f) = 1 ≤ f
+
+good-line : (q : ℕ) (line : Line) → GoodLine (parseInput q line)
+unfolding parseInput inputOfFields
+good-line q line =
+    decided GoodLine (fitting line)
+    (λ fit. decided GoodLine (eqb (length (fields (line .text))) 4)
+    (λ four. decided GoodLine (numerals (drop 1 (fields (line .text))))
+    (λ all. decided GoodLine (allBelow q (numbers (drop 1 (fields (line .text)))))
+    (λ below. tt)
+    (omega arith))
+    (omega arith))
+    (omega arith))
+    (omega arith)
+
+good-lines : (q : ℕ) (lines : List Line) → All GoodLine (map (parseInput q) lines)
+good-lines q [] = tt
+good-lines q (line ∷ lines) = (good-line q line, good-lines q lines)
+
+-- a line of no fault is one row
+one-input : (q : ℕ) (m : Memory) (n k : ℕ) (x : InputLine) → GoodLine x → inputLineFault q m n k x ≡ 0 → length (inputOfLine x) ≡ 1
+unfolding inputLineFault inputOfLine
+one-input q m n k (sound i) good e = refl
+one-input q m n k (faulty f) good e = absurd (omega arith)
+
+-- the first fault of the lines
+none-refused : (b : Bool) (f l : ℕ) (rest : Refusal) → eqb f 0 ≡ b → cond b rest (refusal f l) .number ≡ 0 → (f ≡ 0) × (rest .number ≡ 0)
+unfolding refusal
+none-refused true f l rest test e = (eqb-true f 0 test, e)
+none-refused false f l rest test e = absurd (eqb-false f 0 test e)
+
+-- lines of no fault are size + count rows
+inputs-counted : (q : ℕ) (m : Memory) (n t k : ℕ) (xs : List InputLine) → k ≤ n + t → All GoodLine xs → inputsFault q m n t k xs .number ≡ 0
+    → k + length (inputsOfLines xs) ≡ n + t
+unfolding inputsFault inputsOfLines refusal
+inputs-counted q m n t k [] low good e = go (ltb k (n + t)) refl e
+  where
+    go : (b : Bool) → ltb k (n + t) ≡ b → cond b (refusal 7 (k + 4)) (refusal 0 0) .number ≡ 0 → k + 0 ≡ n + t
+    go true test wrong = absurd (omega (arith, wrong))
+    go false test fine = omega (arith, ltb-false k (n + t) test)
+inputs-counted q m n t k (x ∷ xs) low good e =
+    let first = none-refused _ (cond (ltb k (n + t)) (inputLineFault q m n k x) 7) (k + 4) (inputsFault q m n t (suc k) xs) refl e in
+    let here = chosen-zero (ltb k (n + t)) (inputLineFault q m n k x) 7 (omega arith) (first .0) in
+    let below : suc k ≤ n + t = ltb-true k (n + t) (here .0) in
+    omega (
+      arith,
+      length-append (inputOfLine x) (inputsOfLines xs),
+      one-input q m n k x (good .0) (here .1),
+      inputs-counted q m n t (suc k) xs below (good .1) (first .1),
+    )
+
+-- What is printed of rows, of lines and of the whole input.
+record Run (m : Memory) (n t : ℕ) (rows : List Input) (text : List ℕ) : Type 0 where
+  fillable : Fillable m n t (take n rows) (drop n rows)
+  filled : text ≡ filledText (filledRows m t (take n rows) (drop n rows))
+
+record Refused (text : List ℕ) : Type 0 where
+  number : ℕ
+  line : ℕ
+  fault : 1 ≤ number
+  printed : text ≡ refusalText number line
+
+-- a refusal where a test on its number fails
+refused-by : (f l : ℕ) → eqb f 0 ≡ false → Refused (refusalText f l)
+refused-by f l test = record { number = f; line = l; fault = positive f (eqb-false f 0 test); printed = refl }
+  where
+    positive : (k : ℕ) → (k ≡ 0 → ⊥) → 1 ≤ k
+    positive k h = omega arith
+
+run-printed : (m : Memory) (n t : ℕ) (rows : List Input) → allowed m n t ≡ true → length rows ≡ n + t
+    → Refused (runText p m n t rows) ⊎ Run m n t rows (runText p m n t rows)
+unfolding runText
+run-printed m n t rows fit long = go (eqb (f .number) 0) refl
+  where
+    f : Placed
+    f = rowsFault p m (map (λ i. i .value) (take n rows)) 1 (take n rows) (drop n rows)
+
+    honest : List ℕ
+    honest = filledText (filledRows m t (take n rows) (drop n rows))
+
+    go : (b : Bool) → eqb (f .number) 0 ≡ b
+        → Refused (cond b honest (refusalText (f .number) (f .place + 3))) ⊎ Run m n t rows (cond b honest (refusalText (f .number) (f .place + 3)))
+    go true test =
+        inr (record {
+          fillable = record {
+            fit = fit;
+            size = length-take-le n rows (omega arith);
+            count = omega (arith, length-drop n rows, long);
+            unrefused = eqb-true (f .number) 0 test;
+          };
+          filled = refl;
+        })
+    go false test = inl (refused-by (f .number) (f .place + 3) test)
+
+inputs-printed : (m : Memory) (n t : ℕ) (xs : List InputLine) → allowed m n t ≡ true → All GoodLine xs
+    → Refused (inputsText p m n t xs) ⊎ Run m n t (inputsOfLines xs) (inputsText p m n t xs)
+unfolding inputsText
+inputs-printed m n t xs fit good = go (eqb (f .number) 0) refl
+  where
+    f : Refusal
+    f = inputsFault p m n t 0 xs
+
+    go : (b : Bool) → eqb (f .number) 0 ≡ b
+        → Refused (cond b (runText p m n t (inputsOfLines xs)) (refusalText (f .number) (f .line)))
+        ⊎ Run m n t (inputsOfLines xs) (cond b (runText p m n t (inputsOfLines xs)) (refusalText (f .number) (f .line)))
+    go true test =
+        run-printed m n t (inputsOfLines xs) fit
+        (omega (arith, inputs-counted p m n t 0 xs (omega arith) good (eqb-true (f .number) 0 test)))
+    go false test = inl (refused-by (f .number) (f .line) test)
+
+-- of the lines: a value line that asks for a memory, size and count, and the rows from line 4 on
+record Printed (lines : List Line) (text : List ℕ) : Type 0 where
+  memory : Memory
+  size : ℕ
+  count : ℕ
+  asked : parseJob p (getD lines 1 (record { text = []; ended = false })) ≡ job memory size count
+  run : Run memory size count (inputsOfLines (map (parseInput p) (drop 3 lines))) text
+
+rows-printed : (m : Memory) (n t : ℕ) (first value names : Line) (lines : List Line) → parseJob p value ≡ job m n t → allowed m n t ≡ true
+    → Refused (jobText p (job m n t) (names ∷ lines)) ⊎ Printed (first ∷ value ∷ names ∷ lines) (jobText p (job m n t) (names ∷ lines))
+unfolding jobText
+rows-printed m n t first value names lines asked fit = go (eqb (namesFault inputNames names) 0) refl
+  where
+    text : List ℕ
+    text = inputsText p m n t (map (parseInput p) lines)
+
+    fault : List ℕ
+    fault = refusalText (namesFault inputNames names) 3
+
+    go : (b : Bool) → eqb (namesFault inputNames names) 0 ≡ b → Refused (cond b text fault) ⊎ Printed (first ∷ value ∷ names ∷ lines) (cond b text fault)
+    go true test =
+        elim (inputs-printed m n t (map (parseInput p) lines) fit (good-lines p lines)) [
+          | inl r ↦ inl r
+          | inr w ↦ inr (record { memory = m; size = n; count = t; asked = asked; run = w })
+        ]
+    go false test = inl (refused-by (namesFault inputNames names) 3 test)
+
+job-printed : (first value : Line) (j : Job) (lines : List Line) → parseJob p value ≡ j → GoodJob j
+    → Refused (jobText p j lines) ⊎ Printed (first ∷ value ∷ lines) (jobText p j lines)
+job-printed first value (noJob f) lines asked good = inl (record { number = f; line = 2; fault = good; printed = unfold jobText in refl })
+job-printed first value (job m n t) [] asked good = inl (record { number = 7; line = 3; fault = omega arith; printed = unfold jobText in refl })
+job-printed first value (job m n t) (names ∷ lines) asked good = rows-printed m n t first value names lines asked good
+
+opened-printed : (first : Line) (lines : List Line) → Refused (jobLinesText p lines) ⊎ Printed (first ∷ lines) (jobLinesText p lines)
+unfolding jobLinesText
+opened-printed first [] = inl (record { number = 7; line = 2; fault = omega arith; printed = refl })
+opened-printed first (value ∷ lines) = job-printed first value (parseJob p value) lines refl (good-job p value)
+
+lines-printed : (lines : List Line) → Refused (fillLinesText p lines) ⊎ Printed lines (fillLinesText p lines)
+unfolding fillLinesText
+lines-printed [] = inl (record { number = 1; line = 1; fault = omega arith; printed = refl })
+lines-printed (first ∷ lines) = go (eqb (namesFault fillNames first) 0) refl
+  where
+    fault : List ℕ
+    fault = refusalText (namesFault fillNames first) 1
+
+    go : (b : Bool) → eqb (namesFault fillNames first) 0 ≡ b
+        → Refused (cond b (jobLinesText p lines) fault) ⊎ Printed (first ∷ lines) (cond b (jobLinesText p lines) fault)
+    go true test = opened-printed first lines
+    go false test = inl (refused-by (namesFault fillNames first) 1 test)
+
+-- What the filling program prints is a refusal, or is accepted behind its header at every challenge.
+pub filling-accepted : FillingAccepted
+unfolding fillText
+filling-accepted bytes =
+    elim (lines-printed (linesOf bytes)) [
+      | inl r ↦ inl (record { number = r .number; line = r .line; fault = r .fault; printed = r .printed })
+      | inr w ↦ inr (accepted-print w)
+    ]
+  where
+    accepted-print : Printed (linesOf bytes) (fillLinesText p (linesOf bytes)) → FillAccepted bytes
+    accepted-print w =
+        let rows = inputsOfLines (map (parseInput p) (drop 3 (linesOf bytes))) in
+        let inits = take (w .size) rows in
+        let ops = drop (w .size) rows in
+        record {
+          memory = w .memory;
+          size = w .size;
+          count = w .count;
+          inits = inits;
+          ops = ops;
+          asked = w .asked;
+          given = sym (take-append-drop (w .size) rows);
+          fillable = w .run .fillable;
+          printed = w .run .filled;
+          accepted =
+              λ ch elements. ap (λ (text : List ℕ). fileReport p (headerText (w .memory) (w .size) (w .count) ch ++ text)) (w .run .filled)
+              ∙ honest-file-accepted (w .memory) (w .size) (w .count) inits ops ch (w .run .fillable) elements;
+        }

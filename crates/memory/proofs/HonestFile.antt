@@ -1,0 +1,261 @@
+-- What the filler writes is accepted at every challenge: the lines of the header and of the filler's rows, what the value line reads as, and the report of the
+-- file and of the rows handed one call at a time.
+-- Assumes nothing.
+use Prim.Native.Nat.{ℕ, _+_, _≤_, _<_}
+use native.Mathlib.Omega.{arith}
+use mathlib.Core.Path.{_≡_, refl, sym, _∙_, ap, ap₂}
+use mathlib.Core.Bool.{true}
+use mathlib.Core.Option.{some}
+use mathlib.Core.List.{List, [], _∷_, _++_, map, append-assoc}
+use lib.Dec.{leb}
+use lib.ListN.{length, length-append}
+use borrow.Author.Tests.{lt-ltb, le-leb}
+use Rattle.algebra.specs.Prime.{Prime}
+use Rattle.algebra.proofs.Mersenne.{prime-p}
+use Rattle.field.specs.Field.{p}
+use Rattle.memory.specs.declared.Memory.{Memory}
+use Rattle.memory.specs.declared.Memory.the-variants.{Ram, Rom, Set, Stack, Queue}
+use Rattle.memory.specs.declared.Row.{Row}
+use Rattle.memory.specs.declared.Parsed.the-variants.{Sound}
+use Rattle.memory.specs.declared.Challenge.{Challenge}
+use Rattle.memory.specs.declared.Report.{Report}
+use Rattle.memory.specs.Text.{bytes}
+use Rattle.memory.specs.Bytes.{Line, longest, fitting, comma, feed, same, fields, allBelow, linesOf}
+use Rattle.memory.specs.Names.{valueNames, rowNames, memoryName, memoryNamed}
+use Rattle.memory.specs.Rows.{limit, allowed}
+use Rattle.memory.specs.File.{parsedRow, rowsOf, parseRows, refusal, accepted, balanceReport, rowsReport, valuesFault, valuesReport, opens, openedBy, openingOfFields, parseValues, namesFault, namesReport, openingReport, linesReport, fileReport}
+use Rattle.memory.specs.Honest.{Input, filledRows}
+use Rattle.memory.specs.Print.{numberText, rowsText, filledText, headerText}
+use Rattle.memory.specs.Step.{runOf, freshOf, endOf, reportOf}
+use Rattle.memory.specs.Statements.{Fillable, acceptance, HonestFileAccepted, HonestRunAccepted}
+use Rattle.memory.proofs.Fold.{fold-is-file}
+use Rattle.memory.proofs.Phases.{Parts, parts-no-fault}
+use Rattle.memory.proofs.Gates.{parts-gates}
+use Rattle.memory.proofs.Decimal.{tenDigits}
+use Rattle.memory.proofs.Lengths.{numbers-length}
+use Rattle.memory.proofs.RoundTrip.{above, line-first, joined, joined-fields, joined-above, numbers-back, numerals-back, numbers-line, allBelow-more, rows-round-trip}
+use Rattle.memory.proofs.FillerRows.{Unrefused, no-refusal}
+use Rattle.memory.proofs.HonestRows.{valuesOf, filled-parts}
+use Rattle.memory.proofs.HonestBalances.{filled-balances, values-pass}
+use Rattle.memory.proofs.FilledBelow.{filled-printable-rows}
+use Rattle.memory.proofs.Demand.{sized-limit, allowed-sized}
+
+-- The names of the memories: their bytes are above the comma, they have at most 5, and a memory's name is that memory's.
+memory-above : (m : Memory) → above comma (memoryName m) ≡ true
+unfolding above comma memoryName bytes
+memory-above Ram = refl
+memory-above Rom = refl
+memory-above Set = refl
+memory-above Stack = refl
+memory-above Queue = refl
+
+memory-length : (m : Memory) → length (memoryName m) ≤ 5
+unfolding memoryName bytes
+memory-length Ram = omega arith
+memory-length Rom = omega arith
+memory-length Set = omega arith
+memory-length Stack = omega arith
+memory-length Queue = omega arith
+
+memory-back : (m : Memory) → memoryNamed (memoryName m) ≡ some m
+unfolding memoryNamed memoryName same bytes
+memory-back Ram = refl
+memory-back Rom = refl
+memory-back Set = refl
+memory-back Stack = refl
+memory-back Queue = refl
+
+-- the values of a value line after its memory, and its text
+valuesIn : ℕ → ℕ → Challenge → List ℕ
+valuesIn n t ch = n ∷ t ∷ ch .r ∷ ch .a ∷ ch .b ∷ ch .c ∷ []
+
+valueText : Memory → ℕ → ℕ → Challenge → List ℕ
+valueText m n t ch = joined (memoryName m) (valuesIn n t ch)
+
+-- a whole line
+ended-line : List ℕ → Line
+ended-line text = record { text = text; ended = true }
+
+-- the bytes of a file by its lines
+header-line : (m : Memory) (n t : ℕ) (ch : Challenge) → headerText m n t ch ≡ valueNames ++ feed ∷ (valueText m n t ch ++ feed ∷ [])
+unfolding headerText valueText valuesIn joined
+header-line m n t ch =
+    let rest : List ℕ = t ∷ ch .r ∷ ch .a ∷ ch .b ∷ ch .c ∷ [] in
+    ap (λ (text : List ℕ). valueNames ++ feed ∷ text)
+    (ap (λ (text : List ℕ). memoryName m ++ comma ∷ text) (numbers-line n rest)
+    ∙ sym (append-assoc (memoryName m) (comma ∷ joined (numberText n) rest) (feed ∷ [])))
+
+file-bytes : (m : Memory) (n t : ℕ) (ch : Challenge) (rows : List Row)
+    → headerText m n t ch ++ filledText rows ≡ valueNames ++ feed ∷ (valueText m n t ch ++ feed ∷ (rowNames ++ feed ∷ rowsText rows))
+unfolding filledText
+file-bytes m n t ch rows =
+    let rest : List ℕ = rowNames ++ feed ∷ rowsText rows in
+    ap (λ (text : List ℕ). text ++ rest) (header-line m n t ch)
+    ∙ (append-assoc valueNames (feed ∷ (valueText m n t ch ++ feed ∷ [])) rest
+    ∙ ap (λ (text : List ℕ). valueNames ++ feed ∷ text) (append-assoc (valueText m n t ch) (feed ∷ []) rest))
+
+-- the names lines hold no line feed
+value-names-above : above feed valueNames ≡ true
+unfolding above feed valueNames bytes
+value-names-above = refl
+
+row-names-above : above feed rowNames ≡ true
+unfolding above feed rowNames bytes
+row-names-above = refl
+
+value-text-above : (m : Memory) (n t : ℕ) (ch : Challenge) → above feed (valueText m n t ch) ≡ true
+unfolding valueText
+value-text-above m n t ch = joined-above (memoryName m) (valuesIn n t ch) (memory-above m)
+
+-- the lines of a file
+file-lines : (m : Memory) (n t : ℕ) (ch : Challenge) (rows : List Row)
+    → linesOf (headerText m n t ch ++ filledText rows)
+    ≡ ended-line valueNames ∷ ended-line (valueText m n t ch) ∷ ended-line rowNames ∷ linesOf (rowsText rows)
+unfolding ended-line
+file-lines m n t ch rows =
+    ap linesOf (file-bytes m n t ch rows)
+    ∙ (line-first valueNames (valueText m n t ch ++ feed ∷ (rowNames ++ feed ∷ rowsText rows)) value-names-above
+    ∙ ap (λ (ls : List Line). ended-line valueNames ∷ ls)
+    (line-first (valueText m n t ch) (rowNames ++ feed ∷ rowsText rows) (value-text-above m n t ch)
+    ∙ ap (λ (ls : List Line). ended-line (valueText m n t ch) ∷ ls) (line-first rowNames (rowsText rows) row-names-above)))
+
+-- the names lines are as they should be
+value-names-pass : namesFault valueNames (ended-line valueNames) ≡ 0
+unfolding namesFault ended-line same valueNames bytes
+value-names-pass = refl
+
+row-names-pass : namesFault rowNames (ended-line rowNames) ≡ 0
+unfolding namesFault ended-line same rowNames bytes
+row-names-pass = refl
+
+-- the value line holds at most 80 bytes
+value-length : (m : Memory) (n t : ℕ) (ch : Challenge) → allBelow tenDigits (valuesIn n t ch) ≡ true → length (valueText m n t ch) ≤ 72
+unfolding valueText valuesIn joined
+value-length m n t ch h =
+    let rest : List ℕ = t ∷ ch .r ∷ ch .a ∷ ch .b ∷ ch .c ∷ [] in
+    omega (
+      arith,
+      memory-length m,
+      length-append (memoryName m) (comma ∷ joined (numberText n) rest),
+      numbers-length n rest h,
+      ap length (numbers-line n rest),
+      length-append (joined (numberText n) rest) (feed ∷ []),
+    )
+
+-- and reads as its values
+values-fields : (q : ℕ) (m : Memory) (n t : ℕ) (ch : Challenge) → q ≤ tenDigits → allBelow q (valuesIn n t ch) ≡ true
+    → openingOfFields q (memoryName m ∷ map numberText (valuesIn n t ch)) ≡ opens m n t ch
+unfolding openingOfFields openedBy valuesIn
+values-fields q m n t ch h below =
+    let digits : allBelow tenDigits (valuesIn n t ch) ≡ true = allBelow-more q tenDigits (valuesIn n t ch) h below in
+    simp (numerals-back (valuesIn n t ch) digits, numbers-back (valuesIn n t ch) digits, below, memory-back m)
+
+value-line-back : (q : ℕ) (m : Memory) (n t : ℕ) (ch : Challenge) → q ≤ tenDigits → allBelow q (valuesIn n t ch) ≡ true
+    → parseValues q (ended-line (valueText m n t ch)) ≡ opens m n t ch
+unfolding parseValues ended-line fitting longest valuesIn
+value-line-back q m n t ch h below =
+    let digits : allBelow tenDigits (valuesIn n t ch) ≡ true = allBelow-more q tenDigits (valuesIn n t ch) h below in
+    let short : leb (length (valueText m n t ch)) 80 ≡ true = le-leb (length (valueText m n t ch)) 80 (omega (arith, value-length m n t ch digits)) in
+    let parts : fields (valueText m n t ch) ≡ memoryName m ∷ map numberText (valuesIn n t ch) = unfold valueText in joined-fields (memoryName m) (valuesIn n t ch) (memory-above m) in
+    simp (short, parts, values-fields q m n t ch h below)
+
+-- A file with a right header is what its rows are.
+file-of-rows : (q : ℕ) (m : Memory) (n t : ℕ) (ch : Challenge) (rows : List Row) → q ≤ tenDigits → allBelow q (valuesIn n t ch) ≡ true → valuesFault q m n t ch ≡ 0
+    → fileReport q (headerText m n t ch ++ filledText rows) ≡ valuesReport q m n t ch (parseRows q (linesOf (rowsText rows)))
+unfolding fileReport linesReport openingReport namesReport
+file-of-rows q m n t ch rows h below pass =
+    ap (linesReport q) (file-lines m n t ch rows)
+    ∙ rw (value-names-pass, value-line-back q m n t ch h below, pass, row-names-pass)
+
+-- Rows of no fault whose lists balance are accepted.
+rows-of-sound : (rows : List Row) → rowsOf (map Sound rows) ≡ rows
+unfolding rowsOf parsedRow
+rows-of-sound [] = refl
+rows-of-sound (row ∷ rows) = ap {B = List Row} (λ l. row ∷ l) (rows-of-sound rows)
+
+-- The filler's rows, for a prime with room.
+module _ (q : ℕ) (m : Memory) (n t : ℕ) (inits ops : List Input) (ch : Challenge) (prime : Prime q) (room : t + 1 < q) (size : length inits ≡ n) (count : length ops ≡ t)
+    (u : Unrefused q m (valuesOf inits) inits ops) where
+  filled : List Row
+  filled = filledRows m t inits ops
+
+  -- their report is that of accepted rows
+  filled-report : valuesFault q m n t ch ≡ 0 → valuesReport q m n t ch (map Sound filled) ≡ accepted m filled
+  unfolding valuesReport rowsReport balanceReport filled refusal
+  filled-report pass =
+      let balances = filled-balances q m n t inits ops ch prime room size count u in
+      rw (pass, parts-no-fault q m n t filled (filled-parts q m n t inits ops prime room size count u), rows-of-sound filled, balances .0, balances .1)
+
+  -- and their lines read as them
+  filled-read : q ≤ tenDigits → parseRows q (linesOf (rowsText filled)) ≡ map Sound filled
+  unfolding parseRows filled
+  filled-read h = rows-round-trip q filled h (filled-printable-rows q m t inits ops room count u)
+
+-- by the formulas of document 01's table
+accepted-by-formula : (q : ℕ) (m : Memory) (n t : ℕ) (rows : List Row) → allowed m n t ≡ true → Parts q m n t rows → accepted m rows ≡ acceptance m n t rows
+unfolding accepted acceptance
+accepted-by-formula q m n t rows fit parts =
+    let gates = parts-gates q m n t rows (allowed-sized m n t fit .0) parts in
+    ap₂ {C = Report} (λ i k. record { answer = 0; line = 0; inputs = i; mults = k }) (gates .0) (gates .1)
+
+-- the prime of document 01
+field-prime : Prime p
+unfolding p
+field-prime = prime-p
+
+-- What the filler writes, at the prime of document 01.
+module _ (m : Memory) (n t : ℕ) (inits ops : List Input) (ch : Challenge) (f : Fillable m n t inits ops) (elements : allBelow p (ch .r ∷ ch .a ∷ ch .b ∷ ch .c ∷ []) ≡ true) where
+  rows : List Row
+  rows = filledRows m t inits ops
+
+  unrefused : Unrefused p m (valuesOf inits) inits ops
+  unrefused = no-refusal p m (valuesOf inits) 1 inits ops (f .unrefused)
+
+  small : (n < p) × (t + 1 < p)
+  unfolding p limit
+  small =
+      let size = sized-limit m n (allowed-sized m n t (f .fit) .0) in
+      let count = allowed-sized m n t (f .fit) .1 in
+      (omega arith, omega arith)
+
+  digits-enough : p ≤ tenDigits
+  unfolding p
+  digits-enough = omega arith
+
+  counts-below : allBelow p (n ∷ t ∷ []) ≡ true
+  unfolding allBelow
+  counts-below = rw (lt-ltb n p (small .0), lt-ltb t p (omega (arith, small .1)))
+
+  pass : valuesFault p m n t ch ≡ 0
+  pass = values-pass p m n t ch counts-below (f .fit) elements
+
+  values : allBelow p (valuesIn n t ch) ≡ true
+  unfolding allBelow valuesIn
+  values = rw (lt-ltb n p (small .0), lt-ltb t p (omega (arith, small .1)), elements)
+
+  parts : Parts p m n t rows
+  unfolding rows
+  parts = filled-parts p m n t inits ops field-prime (small .1) (f .size) (f .count) unrefused
+
+  -- the report of their lines
+  lines-accepted : valuesReport p m n t ch (parseRows p (linesOf (rowsText rows))) ≡ acceptance m n t rows
+  unfolding rows filled
+  lines-accepted =
+      ap (valuesReport p m n t ch) (filled-read p m n t inits ops ch field-prime (small .1) (f .size) (f .count) unrefused digits-enough)
+      ∙ (filled-report p m n t inits ops ch field-prime (small .1) (f .size) (f .count) unrefused pass ∙ accepted-by-formula p m n t rows (f .fit) parts)
+
+  file-accepted : fileReport p (headerText m n t ch ++ filledText rows) ≡ acceptance m n t rows
+  file-accepted = file-of-rows p m n t ch rows digits-enough values pass ∙ lines-accepted
+
+  run-accepted : reportOf (endOf (runOf p (freshOf p m n t ch) (linesOf (rowsText rows)))) ≡ acceptance m n t rows
+  run-accepted = fold-is-file p m n t ch (linesOf (rowsText rows)) (field-prime .two) ∙ lines-accepted
+
+-- As bytes, behind the header.
+pub honest-file-accepted : HonestFileAccepted
+unfolding rows
+honest-file-accepted m n t inits ops ch f elements = file-accepted m n t inits ops ch f elements
+
+-- And row by row.
+pub honest-run-accepted : HonestRunAccepted
+unfolding rows
+honest-run-accepted m n t inits ops ch f elements = run-accepted m n t inits ops ch f elements

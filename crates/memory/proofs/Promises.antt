@@ -1,0 +1,34 @@
+-- Every statement of this crate is proved.
+-- Assumes nothing.
+use Rattle.memory.specs.Promises.{Promises}
+use Rattle.memory.proofs.Fold.{fold-is-file, fixed-state, ended-state, accepts-exactly-when}
+use Rattle.memory.proofs.Gates.{gates-by-formula}
+use Rattle.memory.proofs.Factors.{factors-counted, hashes-counted}
+use Rattle.memory.proofs.Demand.{demand-at, demand-three}
+use Rattle.memory.proofs.HonestRows.{honest-rows, refused-not-right}
+use Rattle.memory.proofs.Stream.{stream-cut, stream-is-file}
+use Rattle.memory.proofs.HonestFile.{honest-file-accepted, honest-run-accepted}
+use Rattle.memory.proofs.FilledFile.{filling-accepted}
+use Rattle.memory.proofs.Cases.{cases-hold, ram-products}
+
+pub promises : Promises
+promises = record {
+  fold = fold-is-file;
+  fixed = fixed-state;
+  ended = ended-state;
+  accepts = accepts-exactly-when;
+  gates = gates-by-formula;
+  factors = factors-counted;
+  hashes = hashes-counted;
+  demandAt = demand-at;
+  demandThree = demand-three;
+  honestRows = honest-rows;
+  refusedNotRight = refused-not-right;
+  streamCut = stream-cut;
+  streamIsFile = stream-is-file;
+  honestFile = honest-file-accepted;
+  honestRun = honest-run-accepted;
+  filling = filling-accepted;
+  cases = cases-hold;
+  products = ram-products;
+}

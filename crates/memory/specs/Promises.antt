@@ -1,0 +1,24 @@
+-- Every statement of this crate, as the fields of one record: a proof of it is a proof of each. (Promises: promises)
+-- Assumes nothing.
+use Rattle.memory.specs.Statements.{FoldIsFile, FixedState, EndedState, AcceptsExactlyWhen, GatesByFormula, FactorsCounted, HashesCounted, DemandAt, DemandThree, HonestRows, RefusedNotRight, StreamCut, StreamIsFile, HonestFileAccepted, HonestRunAccepted, FillingAccepted}
+use Rattle.memory.specs.Cases.{CasesHold, RamProducts}
+
+pub record Promises : Type 0 where
+  pub fold : FoldIsFile
+  pub fixed : FixedState
+  pub ended : EndedState
+  pub accepts : AcceptsExactlyWhen
+  pub gates : GatesByFormula
+  pub factors : FactorsCounted
+  pub hashes : HashesCounted
+  pub demandAt : DemandAt
+  pub demandThree : DemandThree
+  pub honestRows : HonestRows
+  pub refusedNotRight : RefusedNotRight
+  pub streamCut : StreamCut
+  pub streamIsFile : StreamIsFile
+  pub honestFile : HonestFileAccepted
+  pub honestRun : HonestRunAccepted
+  pub filling : FillingAccepted
+  pub cases : CasesHold
+  pub products : RamProducts
