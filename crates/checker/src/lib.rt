@@ -22,7 +22,7 @@ ghost use mathlib.Core.Bool.{cond};
 ghost use lib.Dec.{eqb};
 ghost use Rattle.field.specs.Field.{p};
 ghost use Rattle.memory.specs.File.{refused};
-ghost use Rattle.memory.specs.Step.{freshOf, stepOf, endOf, reportOf};
+ghost use Rattle.memory.specs.Step.{freshOf, takeParsed, stepOf, endOf, reportOf};
 
 // A fault of the value line stands on line 2.
 fn value_line(fault: u32) -> u32
@@ -65,6 +65,40 @@ pub fn fresh(memory: Memory, size: u32, count: u32, challenge: Challenge) -> Sta
     }
 }
 
+// The fault of a line that reads as no row: 3, and any other counts as 2.
+fn line_fault(fault: u32) -> u32
+    ensures { λ r. ⌜ r ≡ cond (eqb fault 3) 3 2 ⌝ }
+{
+    if fault == numbers::TOO_LARGE {
+        numbers::TOO_LARGE
+    } else {
+        numbers::UNREADABLE
+    }
+}
+
+// A row that is due, as its line reads: a number of p or more is 3.
+fn take(s: State, parsed: Parsed) -> State
+    ensures { λ r. ⌜ r ≡ takeParsed p s parsed ⌝ }
+{
+    match parsed {
+        Parsed::Sound(row) => {
+            if values::below(
+                row.guard,
+                row.addr,
+                row.value,
+                row.old,
+                row.time,
+                row.version,
+            ) {
+                state::take_row(s, row)
+            } else {
+                state::refuse_next(s, numbers::TOO_LARGE)
+            }
+        }
+        Parsed::Fault(fault) => state::refuse_next(s, line_fault(fault)),
+    }
+}
+
 // One row, as its line reads. "a surplus line is 7 without being read"
 pub fn step(s: State, parsed: Parsed) -> State
     ensures { λ r. ⌜ r ≡ stepOf p s parsed ⌝ }
@@ -76,10 +110,7 @@ pub fn step(s: State, parsed: Parsed) -> State
     if due::total(c) <= c.passed as u64 {
         return state::refuse_next(s, numbers::SURPLUS);
     }
-    match parsed {
-        Parsed::Sound(row) => state::take_row(s, row),
-        Parsed::Fault(fault) => state::refuse_next(s, fault),
-    }
+    take(s, parsed)
 }
 
 // The end of file: 7 if rows are missing, then 9, then 10.

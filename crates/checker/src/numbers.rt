@@ -1,5 +1,8 @@
 // "The numbers": the refusals of document 01 that a checker of rows answers.
 
+// "wrong number of fields, a number empty, over 10 digits, with a leading zero (0 itself is fine) or not digits, line too long or without line feed"
+pub(crate) const UNREADABLE: u32 = 2;
+
 // "a number is p or more"
 pub(crate) const TOO_LARGE: u32 = 3;
 

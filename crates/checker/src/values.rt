@@ -13,14 +13,14 @@ ghost use Rattle.memory.specs.File.{valuesFault};
 // "Size n is 0 to 65,536, and 0 for stack and queue. Count T is 0 to 65,536."
 const LIMIT: u32 = 65536;
 
-// Not 3: "a number is p or more".
-fn below(size: u32, count: u32, ch: Challenge) -> bool
-    ensures { λ r. ⌜ r ≡ allBelow p (size ∷ count ∷ ch .r ∷ ch .a ∷ ch .b ∷ ch .c ∷ []) ⌝ }
+// Not 3: "a number is p or more", of six numbers: those of a value line, or those of a row.
+pub(crate) fn below(u: u32, v: u32, w: u32, x: u32, y: u32, z: u32) -> bool
+    ensures { λ r. ⌜ r ≡ allBelow p (u ∷ v ∷ w ∷ x ∷ y ∷ z ∷ []) ⌝ }
 {
-    (size < Field::MODULUS)
-        & ((count < Field::MODULUS)
-            & ((ch.r < Field::MODULUS)
-                & ((ch.a < Field::MODULUS) & ((ch.b < Field::MODULUS) & (ch.c < Field::MODULUS)))))
+    (u < Field::MODULUS)
+        & ((v < Field::MODULUS)
+            & ((w < Field::MODULUS)
+                & ((x < Field::MODULUS) & ((y < Field::MODULUS) & (z < Field::MODULUS)))))
 }
 
 fn sized(memory: Memory, size: u32) -> bool
@@ -46,7 +46,7 @@ fn allowed(memory: Memory, size: u32, count: u32) -> bool
 pub(crate) fn fault(memory: Memory, size: u32, count: u32, ch: Challenge) -> u32
     ensures { λ r. ⌜ r ≡ valuesFault p memory size count ch ⌝ }
 {
-    if !below(size, count, ch) {
+    if !below(size, count, ch.r, ch.a, ch.b, ch.c) {
         return numbers::TOO_LARGE;
     }
     if allowed(memory, size, count) {

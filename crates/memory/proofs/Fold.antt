@@ -29,7 +29,7 @@ use Rattle.memory.specs.Bound.{accepts, rowsIn}
 use Rattle.memory.specs.Statements.{FoldIsFile, FixedState, EndedState, AcceptsExactlyWhen, Holds}
 use Rattle.memory.proofs.Due.{Passes, due-form}
 use Rattle.memory.proofs.Emitted.{contextOf, none, emitted, productsOf}
-use Rattle.memory.proofs.ReadRows.{Numbered, AllNumbered, lines-numbered}
+use Rattle.memory.proofs.ReadRows.{Numbered, AllNumbered, fault-not-zero, lines-numbered}
 use Rattle.memory.proofs.Placed.{complete-of-lines}
 use Rattle.memory.proofs.Closing.{verdict, closing, closing-is-balance}
 use Rattle.memory.proofs.Reached.{stateOf, Bounded, bounded-start, bounded-next, next-line, last-line, passed-state, step-fault}
@@ -119,17 +119,18 @@ unfolding stepOf stateOf contextOf takesRows due dueAfter
 step-surplus q m n t ch rows x e = rw e
 
 step-fault-line : (q : ℕ) (m : Memory) (n t : ℕ) (ch : Challenge) (rows : List Row) (f : ℕ) → ltb (length rows) (dueAfter m n t rows) ≡ true
+    → Numbered q (Fault f)
     → stepOf q (stateOf q m n t ch rows) (Fault f) ≡ withContext (stateOf q m n t ch rows) (refuseNext (contextOf q m n t rows) f)
 unfolding stepOf stateOf contextOf takesRows due dueAfter takeParsed
-step-fault-line q m n t ch rows f e = rw e
+step-fault-line q m n t ch rows f e r = rw (e, r)
 
 step-row : (q : ℕ) (m : Memory) (n t : ℕ) (ch : Challenge) (rows : List Row) (row : Row) → ltb (length rows) (dueAfter m n t rows) ≡ true
-    → Bounded n t rows
+    → Numbered q (Sound row) → Bounded n t rows
     → stepOf q (stateOf q m n t ch rows) (Sound row)
     ≡ cond (eqb (rowFault q m n t rows row) 0) (passed q (stateOf q m n t ch rows) row)
     (withContext (stateOf q m n t ch rows) (refuseNext (contextOf q m n t rows) (rowFault q m n t rows row)))
 unfolding stepOf stateOf contextOf takesRows due dueAfter takeParsed takeRow
-step-row q m n t ch rows row e b = rw (e, ← (step-fault q m n t rows row b))
+step-row q m n t ch rows row e r b = rw (e, r, ← (step-fault q m n t rows row b))
 
 -- the fault of a surplus line and of one that is due
 line-surplus : (q : ℕ) (m : Memory) (n t : ℕ) (rows : List Row) (x : Parsed) → ltb (length rows) (dueAfter m n t rows) ≡ false
@@ -173,11 +174,11 @@ pub record Folds (q : ℕ) (m : Memory) (n t : ℕ) (ch : Challenge) (rows : Lis
 
 -- a row that passes leaves it to the rest
 fold-pass : (q : ℕ) (m : Memory) (n t : ℕ) (ch : Challenge) (rows : List Row) (row : Row) (xs : List Parsed)
-    → ltb (length rows) (dueAfter m n t rows) ≡ true → rowFault q m n t rows row ≡ 0 → Bounded n t rows
+    → ltb (length rows) (dueAfter m n t rows) ≡ true → Numbered q (Sound row) → rowFault q m n t rows row ≡ 0 → Bounded n t rows
     → (Bounded n t (rows ++ row ∷ []) → Folds q m n t ch (rows ++ row ∷ []) xs)
     → Folds q m n t ch rows (Sound row ∷ xs)
 unfolding stepsOf parsedFault parsedRow rowsOf
-fold-pass q m n t ch rows row xs e z b rest = record {
+fold-pass q m n t ch rows row xs e r z b rest = record {
   folds =
       ap (λ (s : State). reportOf (endOf (stepsOf q s xs))) taken
       ∙ (rest (bounded-next q m n t rows row passes b) .folds
@@ -188,10 +189,10 @@ fold-pass q m n t ch rows row xs e z b rest = record {
     passes = record { due = e; fault = z }
 
     taken : stepOf q (stateOf q m n t ch rows) (Sound row) ≡ stateOf q m n t ch (rows ++ row ∷ [])
-    taken = step-row q m n t ch rows row e b ∙ (rw z (passed-state q m n t ch rows row (due-form passes) b))
+    taken = step-row q m n t ch rows row e r b ∙ (rw z (passed-state q m n t ch rows row (due-form passes) b))
 
 -- one line, and then the lines after it
-fold-line : (q : ℕ) (m : Memory) (n t : ℕ) (ch : Challenge) (rows : List Row) (x : Parsed) (xs : List Parsed) → Numbered x → Bounded n t rows
+fold-line : (q : ℕ) (m : Memory) (n t : ℕ) (ch : Challenge) (rows : List Row) (x : Parsed) (xs : List Parsed) → Numbered q x → Bounded n t rows
     → ((row : Row) → Bounded n t (rows ++ row ∷ []) → Folds q m n t ch (rows ++ row ∷ []) xs)
     → Folds q m n t ch rows (x ∷ xs)
 unfolding stepsOf parsedFault
@@ -206,20 +207,20 @@ fold-line q m n t ch rows x xs r b rest = pick (ltb (length rows) (dueAfter m n 
           ∙ (refused-line q m n t ch rows f xs b z ∙ sym (first-fault q m n t rows y xs _ f e z));
     }
 
-    take-row : (row : Row) → ltb (length rows) (dueAfter m n t rows) ≡ true → (z : Bool) → eqb (rowFault q m n t rows row) 0 ≡ z
+    take-row : (row : Row) → ltb (length rows) (dueAfter m n t rows) ≡ true → Numbered q (Sound row) → (z : Bool) → eqb (rowFault q m n t rows row) 0 ≡ z
         → Folds q m n t ch rows (Sound row ∷ xs)
-    take-row row e true z = fold-pass q m n t ch rows row xs e (eqb-true _ 0 z) b (rest row)
-    take-row row e false z =
-        refuses (Sound row) (rowFault q m n t rows row) (step-row q m n t ch rows row e b ∙ rw z) (line-due q m n t rows (Sound row) e) z
+    take-row row e r true z = fold-pass q m n t ch rows row xs e r (eqb-true _ 0 z) b (rest row)
+    take-row row e r false z =
+        refuses (Sound row) (rowFault q m n t rows row) (step-row q m n t ch rows row e r b ∙ rw z) (line-due q m n t rows (Sound row) e) z
 
-    pick : (d : Bool) → ltb (length rows) (dueAfter m n t rows) ≡ d → (y : Parsed) → Numbered y
+    pick : (d : Bool) → ltb (length rows) (dueAfter m n t rows) ≡ d → (y : Parsed) → Numbered q y
         → Folds q m n t ch rows (y ∷ xs)
     pick false e y ry = refuses y 7 (step-surplus q m n t ch rows y e) (line-surplus q m n t rows y e) refl
-    pick true e (Fault f) ry = refuses (Fault f) f (step-fault-line q m n t ch rows f e) (line-due q m n t rows (Fault f) e) (ne-eqb f 0 ry)
-    pick true e (Sound row) ry = take-row row e (eqb (rowFault q m n t rows row) 0) refl
+    pick true e (Fault f) ry = refuses (Fault f) f (step-fault-line q m n t ch rows f e ry) (line-due q m n t rows (Fault f) e) (ne-eqb f 0 (fault-not-zero f ry))
+    pick true e (Sound row) ry = take-row row e ry (eqb (rowFault q m n t rows row) 0) refl
 
 -- every list of lines
-pub fold-rows : (q : ℕ) (m : Memory) (n t : ℕ) (ch : Challenge) (rows : List Row) (xs : List Parsed) → AllNumbered xs → Bounded n t rows
+pub fold-rows : (q : ℕ) (m : Memory) (n t : ℕ) (ch : Challenge) (rows : List Row) (xs : List Parsed) → AllNumbered q xs → Bounded n t rows
     → Folds q m n t ch rows xs
 unfolding stepsOf rowsOf
 fold-rows q m n t ch rows [] r b =
@@ -228,7 +229,7 @@ fold-rows q m n t ch rows (x ∷ xs) r b =
     fold-line q m n t ch rows x xs (r .0) b (λ row. fold-rows q m n t ch (rows ++ row ∷ []) xs (r .1))
 
 -- of rows without a first fault the running products answer what the equations do
-unless-balance : (q : ℕ) (m : Memory) (n t : ℕ) (ch : Challenge) (xs : List Parsed) → 2 ≤ q → allowed m n t ≡ true → AllNumbered xs
+unless-balance : (q : ℕ) (m : Memory) (n t : ℕ) (ch : Challenge) (xs : List Parsed) → 2 ≤ q → allowed m n t ≡ true → AllNumbered q xs
     → unless (firstFault q m n t [] xs) (closing q m n t ch (rowsOf xs)) ≡ rowsReport q m n t ch xs
 unfolding unless rowsReport
 unless-balance q m n t ch xs le a r = pick (eqb (firstFault q m n t [] xs .number) 0) refl
@@ -261,7 +262,7 @@ allowed-of-values q m n t ch e = pick (allBelow q (n ∷ t ∷ ch .r ∷ ch .a �
     pick false b z = absurd (omega arith)
 
 -- what lines read as, handed to the fresh state one by one
-fold-parsed : (q : ℕ) (m : Memory) (n t : ℕ) (ch : Challenge) (xs : List Parsed) → 2 ≤ q → AllNumbered xs
+fold-parsed : (q : ℕ) (m : Memory) (n t : ℕ) (ch : Challenge) (xs : List Parsed) → 2 ≤ q → AllNumbered q xs
     → reportOf (endOf (stepsOf q (freshOf q m n t ch) xs)) ≡ valuesReport q m n t ch xs
 unfolding valuesReport
 fold-parsed q m n t ch xs le r = pick (eqb (valuesFault q m n t ch) 0) refl

@@ -29,7 +29,7 @@ use Rattle.memory.specs.Equations.{listsOf, initRows, operationRows, end
 use Rattle.memory.specs.File.{parsedRow, rowsOf, parseRows, Refusal, refusal, firstFault}
 use Rattle.memory.specs.Bound.{rowsIn}
 use Rattle.memory.proofs.Operations.{Ops, isOp-true}
-use Rattle.memory.proofs.ReadRows.{both-pass, AllNumbered, lines-numbered, chosen-zero}
+use Rattle.memory.proofs.ReadRows.{both-pass, AllNumbered, fault-not-zero, lines-numbered, chosen-zero}
 
 -- a row of a phase: its op is one of those due there, and the row has its form
 abbrev pub DueRow : Memory → Phase → Row → Type 0
@@ -595,14 +595,14 @@ module _ (q : ℕ) (m : Memory) (n t : ℕ) where
       ∙ closing-no-fault (p .inits ++ p .ops) (p .ends) (p .ranges) (omega (arith, length-append (p .inits) (p .ops), p .size, p .count)) calm (p .depth ∙ sym (ends-by-ops (p .inits) (p .ops) (p .starting))) (p .ages) (p .ending) (p .ranging)))
 
 -- A list of lines that meets no fault reads as rows, one for each line.
-pub no-fault-sound : (q : ℕ) (m : Memory) (n t : ℕ) (before : List Row) (xs : List Parsed) → AllNumbered xs → firstFault q m n t before xs .number ≡ 0
+pub no-fault-sound : (q : ℕ) (m : Memory) (n t : ℕ) (before : List Row) (xs : List Parsed) → AllNumbered q xs → firstFault q m n t before xs .number ≡ 0
     → xs ≡ map Sound (rowsOf xs)
 unfolding rowsOf parsedRow
 no-fault-sound q m n t before [] numbered e = refl
 no-fault-sound q m n t before (Sound row ∷ xs) numbered e =
     ap {B = List Parsed} (λ l. Sound row ∷ l) (no-fault-sound q m n t (before ++ row ∷ []) xs (numbered .1) (no-fault-step q m n t before (Sound row) xs e .1))
 no-fault-sound q m n t before (Fault f ∷ xs) numbered e =
-    absurd (numbered .0 (unfold lineFault parsedFault in chosen-zero (ltb (length before) (dueAfter m n t before)) f 7 (omega arith) (no-fault-step q m n t before (Fault f) xs e .0) .1))
+    absurd (fault-not-zero f (numbered .0) (unfold lineFault parsedFault in chosen-zero (ltb (length before) (dueAfter m n t before)) f 7 (omega arith) (no-fault-step q m n t before (Fault f) xs e .0) .1))
 
 -- the same of a list of lines
 pub lines-sound : (q : ℕ) (m : Memory) (n t : ℕ) (lines : List Line) → firstFault q m n t [] (parseRows q lines) .number ≡ 0

@@ -19,7 +19,7 @@ use Rattle.memory.specs.Rows.{raised, lowered, endsDue, rangesDue, phase
 use Rattle.memory.specs.File.{parsedRow, rowsOf, Refusal, refusal, firstFault}
 use Rattle.memory.proofs.Counted.{length-snoc, raised-snoc, lowered-snoc}
 use Rattle.memory.proofs.Due.{Passes, due-op, quiet-after, op-of-none}
-use Rattle.memory.proofs.ReadRows.{Numbered, AllNumbered}
+use Rattle.memory.proofs.ReadRows.{Numbered, AllNumbered, fault-not-zero}
 
 -- every row of a list has a property, after those before it
 abbrev pub Each : (List Row → Row → Type 0) → List Row → List Row → Type 0
@@ -38,15 +38,15 @@ pub record Complete (q : ℕ) (m : Memory) (n t : ℕ) (past rows : List Row) : 
   pub whole : dueAfter m n t (past ++ rows) ≤ length (past ++ rows)
 
 -- a line that is not at fault is due and reads as a row
-passes-of-line : (q : ℕ) (m : Memory) (n t : ℕ) (past : List Row) (x : Parsed) → Numbered x → lineFault q m n t past x ≡ 0
+passes-of-line : (q : ℕ) (m : Memory) (n t : ℕ) (past : List Row) (x : Parsed) → Numbered q x → lineFault q m n t past x ≡ 0
     → Passes q m n t past (parsedRow x)
 unfolding lineFault parsedFault parsedRow
 passes-of-line q m n t past x r e = pick (ltb (length past) (dueAfter m n t past)) refl x r e
   where
-    pick : (b : Bool) → ltb (length past) (dueAfter m n t past) ≡ b → (y : Parsed) → Numbered y → lineFault q m n t past y ≡ 0
+    pick : (b : Bool) → ltb (length past) (dueAfter m n t past) ≡ b → (y : Parsed) → Numbered q y → lineFault q m n t past y ≡ 0
         → Passes q m n t past (parsedRow y)
     pick false d y ry z = absurd (omega (arith, rw d at z))
-    pick true d (Fault f) ry z = absurd (ry (rw d at z))
+    pick true d (Fault f) ry z = absurd (fault-not-zero f ry (rw d at z))
     pick true d (Sound row) ry z = record { due = d; fault = rw d at z }
 
 -- where the first fault is none, no row is missing, a line has none, and neither has the rest
@@ -64,7 +64,7 @@ none-first f l rest e = pick (eqb f 0) refl
     pick false z = absurd (eqb-false f 0 z (rw z at e))
 
 -- lines without a first fault are complete
-pub complete-of-lines : (q : ℕ) (m : Memory) (n t : ℕ) (past : List Row) (xs : List Parsed) → AllNumbered xs → firstFault q m n t past xs .number ≡ 0
+pub complete-of-lines : (q : ℕ) (m : Memory) (n t : ℕ) (past : List Row) (xs : List Parsed) → AllNumbered q xs → firstFault q m n t past xs .number ≡ 0
     → Complete q m n t past (rowsOf xs)
 unfolding firstFault rowsOf
 complete-of-lines q m n t past [] r e = record {

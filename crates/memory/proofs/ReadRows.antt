@@ -1,19 +1,19 @@
--- What lines read as: every number of a row that a line reads as is below q, and a line that reads as no row has a fault that is not 0.
+-- What lines read as: every number of a row that a line reads as is below q, and a line that reads as no row has the fault 2 or 3.
 -- Assumes nothing.
 use Prim.Native.Nat.{ℕ, zero, suc, _<_}
-use mathlib.Core.Path.{_≡_, refl}
+use mathlib.Core.Path.{_≡_, refl, _∙_, ap}
 use mathlib.Core.Logic.{_≢_}
 use mathlib.Core.Bool.{Bool, true, false, _&&_, cond, false≢true}
 use mathlib.Core.List.{List, [], _∷_}
 use native.Mathlib.Omega.{arith}
 use lib.Dec.{eqb, ltb}
-use lib.ListN.{length, getD, take, drop}
-use borrow.Author.Tests.{ltb-true}
+use lib.ListN.{length, getD, take, drop, length-drop}
+use borrow.Author.Tests.{eqb-true, ltb-true}
 use Rattle.memory.specs.declared.Row.{Row}
 use Rattle.memory.specs.declared.Parsed.{Parsed}
 use Rattle.memory.specs.declared.Parsed.the-variants.{Sound, Fault}
 use Rattle.memory.specs.Bytes.{Line, fitting, fields, numerals, numbers, allBelow}
-use Rattle.memory.specs.Rows.{rowOfFields, parseRow}
+use Rattle.memory.specs.Rows.{rowBelow, rowOfFields, parseRow}
 use Rattle.memory.specs.File.{noRow, parsedRow, rowsOf, parseRows}
 
 -- a statement about both branches of a choice
@@ -35,53 +35,87 @@ pub both-pass : (a b : Bool) → (a && b) ≡ true → (a ≡ true) × (b ≡ tr
 both-pass true b e = (refl, e)
 both-pass false b e = absurd (false≢true e)
 
--- an entry of a list of numbers below q; past its end it is 0
-entry-below : (q : ℕ) (ns : List ℕ) (i : ℕ) → 0 < q → allBelow q ns ≡ true → getD ns i 0 < q
+-- what a line can read as: a row whose numbers are below q, or one of the faults 2 and 3
+abbrev pub Numbered : ℕ → Parsed → Type 0
+Numbered q (Sound row) = rowBelow q row ≡ true
+Numbered q (Fault f) = cond (eqb f 3) 3 2 ≡ f
+
+-- the same of a list
+abbrev pub AllNumbered : ℕ → List Parsed → Type 0
+AllNumbered q [] = Unit {0}
+AllNumbered q (x ∷ xs) = Numbered q x × AllNumbered q xs
+
+-- such a fault is not 0
+pub fault-not-zero : (f : ℕ) → cond (eqb f 3) 3 2 ≡ f → f ≢ 0
+fault-not-zero f e z = pick (eqb f 3) (e ∙ z)
+  where
+    pick : (b : Bool) → _≡_ {A = ℕ} (cond b 3 2) 0 → ⊥
+    pick true h = omega arith
+    pick false h = omega arith
+
+-- an entry of a list of numbers below q
+entry-below : (q : ℕ) (ns : List ℕ) (i : ℕ) → i < length ns → allBelow q ns ≡ true → ltb (getD ns i 0) q ≡ true
 unfolding allBelow
-entry-below q [] i positive h = positive
-entry-below q (x ∷ xs) zero positive h = ltb-true x q (both-pass (ltb x q) (allBelow q xs) h .0)
-entry-below q (x ∷ xs) (suc i) positive h = entry-below q xs i positive (both-pass (ltb x q) (allBelow q xs) h .1)
+entry-below q [] i h e = absurd (omega arith)
+entry-below q (x ∷ xs) zero h e = both-pass (ltb x q) (allBelow q xs) e .0
+entry-below q (x ∷ xs) (suc i) h e = entry-below q xs i (omega arith) (both-pass (ltb x q) (allBelow q xs) e .1)
 
--- the row of a line that reads as none has only zeros
-no-row-below : (q : ℕ) → 0 < q → RowBelow q noRow
-unfolding noRow
-no-row-below q positive = (positive, positive, positive, positive, positive, positive)
+-- a number for each field
+numbers-length : (fs : List (List ℕ)) → length (numbers fs) ≡ length fs
+unfolding numbers
+numbers-length [] = refl
+numbers-length (f ∷ fs) = ap suc (numbers-length fs)
 
--- the row of a list of fields
-fields-below : (q : ℕ) (fs : List (List ℕ)) → 0 < q → RowBelow q (parsedRow (rowOfFields q fs))
-unfolding rowOfFields parsedRow
-fields-below q fs positive =
-    let P : Parsed → Type 0 = λ x. RowBelow q (parsedRow x) in
-    let ns : List ℕ = numbers (drop 1 fs) in
-    either-branch P (numerals (drop 1 fs)) _ (Fault 2)
-    (λ numeral. either-branch P (allBelow q ns) _ (Fault 3)
-    (λ below. (
-      entry-below q ns 0 positive below,
-      entry-below q ns 1 positive below,
-      entry-below q ns 2 positive below,
-      entry-below q ns 3 positive below,
-      entry-below q ns 4 positive below,
-      entry-below q ns 5 positive below,
-    ))
-    (no-row-below q positive))
-    (no-row-below q positive)
+-- what seven fields read as
+fields-numbered : (q : ℕ) (fs : List (List ℕ)) → length fs ≡ 7 → Numbered q (rowOfFields q fs)
+unfolding rowOfFields rowBelow allBelow
+fields-numbered q fs seven =
+    either-branch (Numbered q) (numerals (drop 1 fs)) _ (Fault 2)
+    (λ numeral. either-branch (Numbered q) (allBelow q ns) _ (Fault 3)
+    (λ below. simp (at 0 (omega arith) below, at 1 (omega arith) below, at 2 (omega arith) below, at 3 (omega arith) below, at 4 (omega arith) below, at 5 (omega arith) below))
+    refl)
+    refl
+  where
+    ns : List ℕ
+    ns = numbers (drop 1 fs)
 
--- the row of a line
-line-below : (q : ℕ) (line : Line) → 0 < q → RowBelow q (parsedRow (parseRow q line))
-unfolding parseRow parsedRow
-line-below q line positive =
-    let P : Parsed → Type 0 = λ x. RowBelow q (parsedRow x) in
-    either-branch P (fitting line) _ (Fault 2)
-    (λ fit. either-branch P (eqb (length (fields (line .text))) 7) _ (Fault 2)
-    (λ seven. fields-below q (fields (line .text)) positive)
-    (no-row-below q positive))
-    (no-row-below q positive)
+    at : (i : ℕ) → i < 6 → allBelow q ns ≡ true → ltb (getD ns i 0) q ≡ true
+    at i h below = entry-below q ns i (omega (arith, numbers-length (drop 1 fs), length-drop 1 fs)) below
+
+-- what a line reads as
+line-numbered : (q : ℕ) (line : Line) → Numbered q (parseRow q line)
+unfolding parseRow
+line-numbered q line =
+    let fs : List (List ℕ) = fields (line .text) in
+    either-branch (Numbered q) (fitting line) _ (Fault 2)
+    (λ fit. either-branch (Numbered q) (eqb (length fs) 7) _ (Fault 2) (λ seven. fields-numbered q fs (eqb-true (length fs) 7 seven)) refl)
+    refl
+
+-- the numbers of a row that a line can read as; the row of a line that reads as none has only zeros
+numbered-below : (q : ℕ) (x : Parsed) → 0 < q → Numbered q x → RowBelow q (parsedRow x)
+unfolding parsedRow noRow rowBelow allBelow
+numbered-below q (Fault f) positive h = (positive, positive, positive, positive, positive, positive)
+numbered-below q (Sound row) positive h =
+    let g = both-pass (ltb (row .guard) q) _ h in
+    let a = both-pass (ltb (row .addr) q) _ (g .1) in
+    let v = both-pass (ltb (row .value) q) _ (a .1) in
+    let o = both-pass (ltb (row .old) q) _ (v .1) in
+    let t = both-pass (ltb (row .time) q) _ (o .1) in
+    let n = both-pass (ltb (row .version) q) _ (t .1) in (
+      ltb-true _ q (g .0),
+      ltb-true _ q (a .0),
+      ltb-true _ q (v .0),
+      ltb-true _ q (o .0),
+      ltb-true _ q (t .0),
+      ltb-true _ q (n .0),
+    )
 
 -- the rows of a list of lines
 pub lines-below : (q : ℕ) (lines : List Line) → 0 < q → RowsBelow q (rowsOf (parseRows q lines))
 unfolding rowsOf parseRows
 lines-below q [] positive = tt
-lines-below q (line ∷ lines) positive = (line-below q line positive, lines-below q lines positive)
+lines-below q (line ∷ lines) positive =
+    (numbered-below q (parseRow q line) positive (line-numbered q line), lines-below q lines positive)
 
 -- a part of a list of such rows
 pub taken-below : (q k : ℕ) (rows : List Row) → RowsBelow q rows → RowsBelow q (take k rows)
@@ -95,31 +129,8 @@ dropped-below q zero rows h = h
 dropped-below q (suc k) [] h = tt
 dropped-below q (suc k) (row ∷ rows) h = dropped-below q k rows (h .1)
 
--- what reads as no row has a fault that is not 0
-abbrev pub Numbered : Parsed → Type 0
-Numbered (Sound row) = Unit {0}
-Numbered (Fault f) = f ≢ 0
-
--- the same of a list
-abbrev pub AllNumbered : List Parsed → Type 0
-AllNumbered [] = Unit {0}
-AllNumbered (x ∷ xs) = Numbered x × AllNumbered xs
-
--- the faults of a line are 2 and 3
-line-numbered : (q : ℕ) (line : Line) → Numbered (parseRow q line)
-unfolding parseRow rowOfFields
-line-numbered q line =
-    let fs : List (List ℕ) = fields (line .text) in
-    either-branch Numbered (fitting line) _ (Fault 2)
-    (λ fit. either-branch Numbered (eqb (length fs) 7) _ (Fault 2)
-    (λ seven. either-branch Numbered (numerals (drop 1 fs)) _ (Fault 2)
-    (λ numeral. either-branch Numbered (allBelow q (numbers (drop 1 fs))) _ (Fault 3) (λ below. tt) (omega arith))
-    (omega arith))
-    (omega arith))
-    (omega arith)
-
--- the faults of a list of lines
-pub lines-numbered : (q : ℕ) (lines : List Line) → AllNumbered (parseRows q lines)
+-- what a list of lines reads as
+pub lines-numbered : (q : ℕ) (lines : List Line) → AllNumbered q (parseRows q lines)
 unfolding parseRows
 lines-numbered q [] = tt
 lines-numbered q (line ∷ lines) = (line-numbered q line, lines-numbered q lines)

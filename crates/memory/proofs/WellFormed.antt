@@ -63,7 +63,7 @@ parts-well-formed q m n t rows p =
 
 -- the rows of a list of lines without fault
 pub no-fault-well-formed :
-    (q : ℕ) (m : Memory) (n t : ℕ) (xs : List Parsed) → AllNumbered xs → firstFault q m n t [] xs .number ≡ 0
+    (q : ℕ) (m : Memory) (n t : ℕ) (xs : List Parsed) → AllNumbered q xs → firstFault q m n t [] xs .number ≡ 0
     → WellFormed q m n t (rowsOf xs)
 no-fault-well-formed q m n t xs numbered e =
     parts-well-formed q m n t (rowsOf xs)

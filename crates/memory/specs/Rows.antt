@@ -132,6 +132,10 @@ formed m row =
     && ((empty (u .addr) (row .addr) && empty (u .value) (row .value))
     && (empty (u .old) (row .old) && (empty (u .time) (row .time) && empty (u .version) (row .version))))
 
+-- 3: "a number is p or more", of a row's six numbers
+unfoldable pub rowBelow : ℕ → Row → Bool
+rowBelow q row = allBelow q (row .guard ∷ row .addr ∷ row .value ∷ row .old ∷ row .time ∷ row .version ∷ [])
+
 -- a row line with the right number of fields: 2 if a number is none, else 3 if one is q or more, else the row
 unfoldable pub rowOfFields : ℕ → List (List ℕ) → Parsed
 rowOfFields q fs =

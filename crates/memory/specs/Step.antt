@@ -22,7 +22,7 @@ use Rattle.memory.specs.declared.State.{State}
 use Rattle.memory.specs.declared.Report.{Report}
 use Rattle.memory.specs.Bytes.{Line}
 use Rattle.memory.specs.Names.{isOp}
-use Rattle.memory.specs.Rows.{raiseBy, lowerBy, endsDue, rangesDue, phaseAt, opsDue, opIn, formed, depthFactor, parseRow}
+use Rattle.memory.specs.Rows.{raiseBy, lowerBy, endsDue, rangesDue, phaseAt, opsDue, opIn, formed, depthFactor, rowBelow, parseRow}
 use Rattle.memory.specs.Equations.{Triple, triple, pair, Lookup, factor, lookRead, lookWrite, setInit, memberRead, memberWrite, rangeRead, rangeWrite, accessRead, newOf, pushWrite, popRead, popLookup}
 use Rattle.memory.specs.Gates.{rowInputs, rowMults}
 use Rattle.memory.specs.File.{refused, valuesFault, Opening, opens, shut, parseValues}
@@ -212,9 +212,10 @@ takeRow q s row =
     cond (eqb (stepFault q (s .context) row) 0) (passed q s row)
     (withContext s (refuseNext (s .context) (stepFault q (s .context) row)))
 
+-- what a line reads as: a row with a number of q or more is 3, and a fault that is not 3 is 2
 unfoldable pub takeParsed : ℕ → State → Parsed → State
-takeParsed q s (Sound row) = takeRow q s row
-takeParsed q s (Fault f) = withContext s (refuseNext (s .context) f)
+takeParsed q s (Sound row) = cond (rowBelow q row) (takeRow q s row) (withContext s (refuseNext (s .context) 3))
+takeParsed q s (Fault f) = withContext s (refuseNext (s .context) (cond (eqb f 3) 3 2))
 
 -- one row. "After a refusal or the end of file a state is fixed"; a surplus row is 7
 unfoldable pub stepOf : ℕ → State → Parsed → State
