@@ -6,14 +6,9 @@ use memory::Parsed;
 use memory::Products;
 use memory::Report;
 use memory::State;
+use rules::due;
 
-mod columns;
-mod due;
-mod factors;
-mod gates;
 mod numbers;
-mod ops;
-mod passing;
 mod state;
 mod values;
 

@@ -1,4 +1,4 @@
-// "The numbers": the refusals of document 01 that a checker of rows answers.
+// "The numbers": the refusals of document 01 that a checker of rows answers, but for 5, 6 and 8, which crate `passing` answers.
 
 // "wrong number of fields, a number empty, over 10 digits, with a leading zero (0 itself is fine) or not digits, line too long or without line feed"
 pub(crate) const UNREADABLE: u32 = 2;
@@ -9,19 +9,10 @@ pub(crate) const TOO_LARGE: u32 = 3;
 // "unknown memory, size or count not allowed"
 pub(crate) const NOT_ALLOWED: u32 = 4;
 
-// "the op is not one due here"
-pub(crate) const NOT_DUE: u32 = 5;
-
-// "guard above 1, or an unused column not 0"
-pub(crate) const NOT_FORMED: u32 = 6;
-
 // "file ends early, or a line follows the last due row"
 pub(crate) const MISSING: u32 = 7;
 
 pub(crate) const SURPLUS: u32 = MISSING;
-
-// "the queue's depth product is 0, or the stack's depth is below 0"
-pub(crate) const SUNK: u32 = 8;
 
 // "range does not balance"
 pub(crate) const RANGE: u32 = 9;

@@ -1,6 +1,4 @@
 // The state of a checker after a refusal, after a row that has passed, and at the accepted end of file.
-use super::factors;
-use super::passing;
 use memory::Context;
 use memory::Row;
 use memory::State;
@@ -63,8 +61,9 @@ pub(crate) fn take_row(s: State, row: Row) -> State
     let c = s.context;
     let challenge = s.challenge;
     let ps = s.products;
-    let context = passing::pass(c, row);
-    let fault = passing::fault(c, row, context);
+    let judged = passing::judge(c, row);
+    let fault = judged.fault;
+    let context = judged.next;
     if fault == 0 {
         let products = factors::multiply(challenge, c, row, ps);
         State {

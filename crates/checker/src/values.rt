@@ -1,4 +1,4 @@
-// The fault of a value line's values: 3 and 4 of the numbers.
+// 3 and 4 of the numbers: whether six numbers are below p, and the fault of a value line's values.
 use super::numbers;
 use field::Field;
 use memory::Challenge;

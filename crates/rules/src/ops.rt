@@ -1,0 +1,30 @@
+// The ops of document 01, told apart by their numbers.
+use memory::Op;
+ghost use mathlib.Core.Path.{_≡_};
+ghost use Rattle.memory.specs.Names.{opCode, isOp};
+
+// The number of an op.
+fn code(op: Op) -> u32
+    ensures { λ r. ⌜ r ≡ opCode op ⌝ }
+{
+    match op {
+        Op::Init => 0,
+        Op::Access => 1,
+        Op::Look => 2,
+        Op::Member => 3,
+        Op::Push => 4,
+        Op::Pop => 5,
+        Op::Enqueue => 6,
+        Op::Dequeue => 7,
+        Op::End => 8,
+        Op::Range => 9,
+        Op::Other => 10,
+    }
+}
+
+// Whether two ops are the same.
+pub fn is(op: Op, other: Op) -> bool
+    ensures { λ r. ⌜ r ≡ isOp op other ⌝ }
+{
+    code(op) == code(other)
+}
