@@ -248,7 +248,7 @@ sub mutated {
 my $folder = tempdir(CLEANUP => 1);
 
 # A program that has not ended after this many seconds is stopped, and its case has failed.
-my $PATIENCE = 60;
+my $SECONDS = 60;
 
 sub write_file {
     my ($path, $bytes) = @_;
@@ -274,7 +274,7 @@ sub start {
     POSIX::dup2(fileno($input), 0);
     open(STDOUT, '>:raw', "$folder/output") or POSIX::_exit(126);
     open(STDERR, '>:raw', "$folder/errors") or POSIX::_exit(126);
-    alarm $PATIENCE;
+    alarm $SECONDS;
     { no warnings 'exec'; exec {$program} $program; }
     print STDERR "$program: $!\n";
     close(STDERR);

@@ -49,11 +49,10 @@ my %UNUSED_END = map { $_ => others($USED_END{$_}) } keys %USED_END;
 sub lines_of {
     my ($bytes) = @_;
     my @lines;
-    while ($bytes =~ /\G([^\n]*)(\n|\z)/g) {
-        my ($text, $feed) = ($1, $2);
-        last if $text eq '' && $feed eq '';
-        push @lines, [$text, $feed eq "\n"];
-        last if $feed eq '';
+    local $/ = "\n";
+    for my $text (split /^/m, $bytes) {
+        my $ended = chomp $text;
+        push @lines, [$text, $ended];
     }
     return @lines;
 }
@@ -243,10 +242,11 @@ sub check_file {
         return $no->(7, $number) if !$part;
         my $fields = fields_of($line, 7);
         return $no->(2, $number) if !$fields;
+        my ($op, @numbers) = @$fields;
+        return $no->(3, $number) if grep { $_ >= $P } @numbers;
+        return $no->(5, $number) if !grep { $_ eq $op } @due;
         my %row;
         @row{qw(op guard addr value old time version)} = @$fields;
-        return $no->(3, $number) if grep { $_ >= $P } @$fields[1 .. 6];
-        return $no->(5, $number) if !grep { $_ eq $row{op} } @due;
         return $no->(6, $number) if !well_formed($memory, \%row);
         push @$part, \%row;
         return $no->(8, $number) if $part == \@operations && @operations == $t && sunk($memory, @operations);
@@ -265,11 +265,8 @@ sub honest {
     my ($memory, $n, $t, @rows) = @_;
     my @inits = map { $_->{value} } @rows[0 .. $n - 1];
     my @operations = @rows[$n .. $#rows];
-    my (@out, %seen, @cells, $clock, $place);
-    my @end;
-    my @versions;
-    $place = $n;
-    $clock = 1;
+    my (@out, %seen, @cells);
+    my ($place, $clock) = ($n, 1);
     push @out, { %$_, old => 0, time => 0, version => 0 } for @rows[0 .. $n - 1];
     @cells = map { [$_, 0] } @inits if $memory eq 'ram' || $memory eq 'rom';
     my %first;

@@ -9,8 +9,8 @@ use warnings;
 use File::Basename qw(dirname);
 use lib dirname(__FILE__);
 use Harness qw(
-    $P header row rows lines with first_lines unended random random_from honest_input mutated
-    program_called compare unreadable_input finish
+    $P header row rows lines with first_lines unended random honest_input mutated
+    program_called compare counted unreadable_input finish
 );
 use Reference ();
 
@@ -25,15 +25,18 @@ sub case {
     compare($name, $program, $bytes, report($values), report(Reference::check_file($bytes)));
 }
 
-# The same file through a pipe, written 1 byte, 7 bytes and a line at a time.
-sub in_pieces {
-    my ($name, $values, @file) = @_;
+# The file through a pipe that is written in pieces: each a number of bytes, or 'line'.
+sub through_pipe {
+    my ($pieces, $name, $values, @file) = @_;
     my $bytes = join('', @file);
     my $reference = report(Reference::check_file($bytes));
-    compare("$name, 1 byte at a time",  $program, $bytes, report($values), $reference, piece => 1);
-    compare("$name, 7 bytes at a time", $program, $bytes, report($values), $reference, piece => 7);
-    compare("$name, a line at a time",  $program, $bytes, report($values), $reference, piece => 'line');
+    for my $piece (@$pieces) {
+        my $size = $piece eq 'line' ? 'a line' : $piece == 1 ? '1 byte' : "$piece bytes";
+        compare("$name, $size at a time", $program, $bytes, report($values), $reference, piece => $piece);
+    }
 }
+sub in_pieces     { through_pipe([1, 7, 'line'], @_); }
+sub in_large_ones { through_pipe([7, 1000, 4096, 65535, 65537, 'line'], @_); }
 
 # An accepted file of each memory. Cases below change their lines.
 
@@ -793,8 +796,10 @@ case 'queue: the old of a dequeue'                       => '10,7,0,0', with(\@Q
 case 'queue: the value of an enqueue'                    => '10,7,0,0', with(\@QUEUE, 4 => 'enqueue,1,0,5,0,0,0');
 case 'queue: the old of an end'                          => '10,7,0,0', with(\@QUEUE, 7 => 'end,0,0,0,7,0,0');
 case 'queue: taken from the back'                        => '10,7,0,0', with(\@QUEUE, 6 => 'dequeue,1,0,0,6,0,0', 7 => 'end,0,0,0,4,0,0');
-case 'queue: ends swapped'                               => '10,7,0,0', header('queue', 0, 2), rows('enqueue,1,0,4,0,0,0 enqueue,1,0,6,0,0,0 end,0,0,0,6,0,0 end,0,0,0,4,0,0');
-case 'queue: a zero in front'                            => '0,0,2,6',  header('queue', 0, 2), rows('enqueue,1,0,0,0,0,0 enqueue,1,0,6,0,0,0 end,0,0,0,0,0,0 end,0,0,0,6,0,0');
+case 'queue: ends swapped'                               => '10,7,0,0', header('queue', 0, 2),
+    rows('enqueue,1,0,4,0,0,0 enqueue,1,0,6,0,0,0 end,0,0,0,6,0,0 end,0,0,0,4,0,0');
+case 'queue: a zero in front'                            => '0,0,2,6',  header('queue', 0, 2),
+    rows('enqueue,1,0,0,0,0,0 enqueue,1,0,6,0,0,0 end,0,0,0,0,0,0 end,0,0,0,6,0,0');
 
 # Accepted: right traces with the filler's advice or other advice that balances.
 
@@ -937,10 +942,12 @@ sub filled {
 # The same with the number in that field of the last end row raised by 1.
 sub spoilt {
     my ($field, @file) = @_;
-    my ($at) = grep { $file[$_] =~ /^end/ } reverse 0 .. $#file;
+    my $at = $#file;
+    $at-- while $file[$at] !~ /^end/;
     my @fields = split /,/, unended($file[$at]);
     $fields[$field] = ($fields[$field] + 1) % $P;
-    return with(\@file, $at + 1 => join(',', @fields));
+    $file[$at] = row(@fields);
+    return @file;
 }
 
 my @CHALLENGES = (
@@ -988,7 +995,8 @@ for my $memory (qw(ram rom set stack queue)) {
 }
 # Files that met only a few of the answers would test little.
 for my $answer (0 .. 10) {
-    Harness::counted("mutated: answer $answer is met", ($answers{$answer} // 0) >= 5 ? () : 'it is met ' . ($answers{$answer} // 0) . ' times');
+    my $times = $answers{$answer} // 0;
+    counted("mutated: answer $answer is met", $times >= 5 ? () : "it is met $times times");
 }
 
 unreadable_input($program);
@@ -1101,8 +1109,9 @@ for my $bytes (sort keys %cuts) {
     case "edge: 80 bytes after byte $bytes"              => "5,$cuts{$bytes},0,0", beginning($bytes), 'x' x 68, ",0,0,0,0,0,0\n";
     case "edge: 81 bytes after byte $bytes"              => "2,$cuts{$bytes},0,0", beginning($bytes), 'x' x 69, ",0,0,0,0,0,0\n";
 }
-case 'edge: a long line ends with byte 65536'            => '2,4,0,0', first_lines(\@RAM, 3), 'x' x (65535 - length join('', first_lines(\@RAM, 3))), "\n", @RAM[3 .. 10];
-case 'edge: a long line ends with byte 65537'            => '2,4,0,0', first_lines(\@RAM, 3), 'x' x (65536 - length join('', first_lines(\@RAM, 3))), "\n", @RAM[3 .. 10];
+# The header of that ram has 81 bytes.
+case 'edge: a long line ends with byte 65536'            => '2,4,0,0', first_lines(\@RAM, 3), 'x' x 65454, "\n", @RAM[3 .. 10];
+case 'edge: a long line ends with byte 65537'            => '2,4,0,0', first_lines(\@RAM, 3), 'x' x 65455, "\n", @RAM[3 .. 10];
 case 'edge: a long line from byte 65500 to 131100'       => '2,3119,0,0', beginning(65500), 'x' x 65600, "\n", "init,0,0,5,0,0,0\n";
 case 'edge: a refusal, then further blocks'              => '6,4,0,0', with(\@BLOCKS, 4 => 'init,1,0,5,0,0,0'), @BLOCKS;
 
@@ -1122,11 +1131,8 @@ in_pieces('pipe: 80 bytes'                               => '5,6,0,0', with(\@RA
 in_pieces('pipe: 81 bytes'                               => '2,6,0,0', with(\@RAM, 6 => 'x' x 69 . ',0,0,0,0,0,0'));
 in_pieces('pipe: a surplus line'                         => '7,12,0,0', @RAM, "\n");
 in_pieces('pipe: 8, then garbage'                        => '8,4,0,0', @SUNK, "...\n" x 10);
-for my $piece (7, 1000, 4096, 65535, 65537, 'line') {
-    my $name = $piece eq 'line' ? 'a line' : "$piece bytes";
-    my $bytes = join('', @BLOCKS);
-    compare("pipe: 131072 bytes, $name at a time", $program, $bytes, report('0,0,6388,6388'), report(Reference::check_file($bytes)), piece => $piece);
-}
+in_large_ones('pipe: 131072 bytes'                       => '0,0,6388,6388', @BLOCKS);
+in_large_ones('pipe: a long line'                        => '2,7,0,0', first_lines(\@RAM, 6), 'x' x $LONG, "\n", @RAM[6 .. 10]);
 
 # A ram of the largest size and count, filled honestly.
 
@@ -1152,5 +1158,9 @@ sub largest_ram {
 my @LARGEST = largest_ram();
 case 'largest: ram'                                      => '0,0,393216,524288', @LARGEST;
 case 'largest: ram with one value changed'               => '10,262147,0,0', spoilt(4, @LARGEST);
+@LARGEST = ();
+# The depth reaches 65536.
+case 'largest: queue of enqueues'                        => '0,0,65536,196608', header('queue', 0, 65536),
+    (map { "enqueue,1,0,$_,0,0,0\n" } 1 .. 65536), (map { "end,0,0,0,$_,0,0\n" } 1 .. 65536);
 
 finish();
