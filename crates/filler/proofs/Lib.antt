@@ -1,0 +1,17 @@
+pub mod Inputs
+pub mod Laid
+pub mod EndRows
+pub mod Members
+pub mod Forms
+pub mod Scanned
+pub mod Onward
+pub mod Counts
+pub mod RomRun
+pub mod QueueRun
+pub mod RamRun
+pub mod StackRun
+pub mod SetRun
+pub mod Progress
+pub mod FirstFault
+pub mod InitRows
+pub mod Whole

@@ -1,0 +1,51 @@
+-- The place of the first equal element of a list.
+--     among-first     an element is among a list where that place is before the end
+--     first-at        the element there is the one sought
+--     first-low       no place before it holds the element sought
+-- Assumes nothing.
+use Prim.Native.Nat.{ℕ, zero, suc, _+_, _≤_, _<_}
+use native.Mathlib.Omega.{arith}
+use native.Mathlib.Decide.{ℕ-discrete}
+use mathlib.Core.Bool.{Bool, true, false, cond, _||_}
+use mathlib.Core.Path.{_≡_, refl, sym, ap, _∙_}
+use mathlib.Core.List.{List, [], _∷_}
+use lib.Dec.{eqb, ltb, leb·suc-suc, leb·suc-zero}
+use lib.ListN.{length, getD}
+use borrow.Author.Tests.{eq-eqb, ne-eqb, lt-ltb}
+use Rattle.memory.specs.Plain.{among}
+use Rattle.filler.specs.Words.{firstAt}
+
+pub among-first : (x : ℕ) (ys : List ℕ) → among x ys ≡ ltb (firstAt x ys) (length ys)
+unfolding among firstAt
+among-first x [] = sym (leb·suc-zero 0)
+among-first x (y ∷ ys) = go (eqb x y) (among-first x ys)
+  where
+    go : (b : Bool) → among x ys ≡ ltb (firstAt x ys) (length ys) → (b || among x ys) ≡ ltb (cond b 0 (suc (firstAt x ys))) (suc (length ys))
+    go true ih = sym (lt-ltb 0 (suc (length ys)) (omega arith))
+    go false ih = ih ∙ sym (leb·suc-suc (suc (firstAt x ys)) (length ys))
+
+-- by whether the first element is the one sought
+first-here : (x y : ℕ) (ys : List ℕ) → x ≡ y → firstAt x (y ∷ ys) ≡ 0
+unfolding firstAt
+first-here x y ys e = ap (λ (b : Bool). cond b 0 (suc (firstAt x ys))) (eq-eqb x y e)
+
+first-later : (x y : ℕ) (ys : List ℕ) → (x ≡ y → ⊥) → firstAt x (y ∷ ys) ≡ suc (firstAt x ys)
+unfolding firstAt
+first-later x y ys h = ap (λ (b : Bool). cond b 0 (suc (firstAt x ys))) (ne-eqb x y h)
+
+pub first-at : (x : ℕ) (ys : List ℕ) → firstAt x ys < length ys → getD ys (firstAt x ys) 0 ≡ x
+first-at x [] h = absurd (omega arith)
+first-at x (y ∷ ys) h = go (ℕ-discrete x y) (first-at x ys)
+  where
+    go : Dec (x ≡ y) → (firstAt x ys < length ys → getD ys (firstAt x ys) 0 ≡ x) → getD (y ∷ ys) (firstAt x (y ∷ ys)) 0 ≡ x
+    go (yes e) ih = ap (λ (n : ℕ). getD (y ∷ ys) n 0) (first-here x y ys e) ∙ sym e
+    go (no n) ih = let l = first-later x y ys n in ap (λ (i : ℕ). getD (y ∷ ys) i 0) l ∙ ih (omega arith)
+
+pub first-low : (x : ℕ) (ys : List ℕ) (j : ℕ) → j < length ys → getD ys j 0 ≡ x → firstAt x ys ≤ j
+first-low x [] j h e = absurd (omega arith)
+first-low x (y ∷ ys) zero h e = omega (arith, first-here x y ys (sym e))
+first-low x (y ∷ ys) (suc j) h e = go (ℕ-discrete x y) (first-low x ys j (omega arith) e)
+  where
+    go : Dec (x ≡ y) → firstAt x ys ≤ j → firstAt x (y ∷ ys) ≤ suc j
+    go (yes q) ih = omega (arith, first-here x y ys q)
+    go (no n) ih = omega (arith, first-later x y ys n)

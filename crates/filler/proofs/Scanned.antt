@@ -1,0 +1,93 @@
+-- The scan by words, one row at a time.
+--     fault-by-words    the fault of an operation by its words
+--     leveled-rise      a level rises by one at most
+--     inits-turn, scan-turn    the scan of what is left begins with the row there
+-- Assumes nothing.
+use Prim.Native.Nat.{ℕ, zero, suc, _+_, _-_, _*_, _≤_}
+use native.Mathlib.Omega.{arith}
+use mathlib.Core.Bool.{Bool, true, false, cond}
+use mathlib.Core.Path.{_≡_, refl, sym, ap, _∙_}
+use mathlib.Core.List.{List, [], _∷_}
+use lib.Dec.{eqb, leb, ltb}
+use lib.ListN.{length, drop}
+use Rattle.memory.specs.declared.Memory.{Memory}
+use Rattle.memory.specs.declared.Memory.the-variants.{Ram, Rom, Set, Stack, Queue}
+use Rattle.memory.specs.declared.Phase.the-variants.{Operating}
+use Rattle.memory.specs.Names.{opCode}
+use Rattle.memory.specs.Bytes.{allBelow}
+use Rattle.memory.specs.Rows.{opsDue}
+use Rattle.memory.specs.Honest.{Input}
+use Rattle.memory.specs.Filler.{opCoded, inputsIn, inputFault, Placed, placed}
+use Rattle.filler.specs.Words.{opAt, guardAt, addrAt, valueAt, inputAt}
+use Rattle.filler.specs.Scan.{form, emptied, refusal, moved, leveled, faultAt, scanned, initFault, initsScanned}
+use Rattle.filler.proofs.Inputs.{inputs-cons}
+use Rattle.filler.proofs.Forms.{is-coded, input, operation-form}
+
+-- neither depends on more of the op than whether it goes up
+refusal-coded : (m : Memory) (values : List ℕ) (level o g a v : ℕ) → refusal m values level (opCode (opCoded o)) g a v ≡ refusal m values level o g a v
+unfolding refusal
+refusal-coded Ram values level o g a v = refl
+refusal-coded Rom values level o g a v = refl
+refusal-coded Set values level o g a v = refl
+refusal-coded Stack values level o g a v = ap (λ (b : Bool). emptied b g level) (is-coded o 4 (omega arith))
+refusal-coded Queue values level o g a v = ap (λ (b : Bool). emptied b g level) (is-coded o 6 (omega arith))
+
+pub leveled-coded : (m : Memory) (level o g : ℕ) → leveled m level (opCode (opCoded o)) g ≡ leveled m level o g
+unfolding leveled
+leveled-coded Ram level o g = refl
+leveled-coded Rom level o g = refl
+leveled-coded Set level o g = refl
+leveled-coded Stack level o g = ap (λ (b : Bool). moved b g level) (is-coded o 4 (omega arith))
+leveled-coded Queue level o g = ap (λ (b : Bool). moved b g level) (is-coded o 6 (omega arith))
+
+pub fault-by-words : (q : ℕ) (m : Memory) (values : List ℕ) (level o g a v : ℕ)
+    → faultAt q m values level (input o g a v)
+    ≡ cond (allBelow q (g ∷ a ∷ v ∷ [])) (cond (eqb (form m o g a v) 0) (refusal m values level o g a v) (form m o g a v)) 3
+unfolding faultAt
+fault-by-words q m values level o g a v =
+    ap (λ (r : ℕ). cond (eqb X 0) r X) (refusal-coded m values level o g a v)
+    ∙ ap (λ (x : ℕ). cond (eqb x 0) R x) (operation-form q m o g a v)
+    ∙ go (allBelow q (g ∷ a ∷ v ∷ []))
+  where
+    X : ℕ
+    X = inputFault q m (opsDue m Operating) (input o g a v)
+
+    R : ℕ
+    R = refusal m values level o g a v
+
+    go : (b : Bool) → cond (eqb (cond b (form m o g a v) 3) 0) R (cond b (form m o g a v) 3) ≡ cond b (cond (eqb (form m o g a v) 0) R (form m o g a v)) 3
+    go true = refl
+    go false = refl
+
+moved-rise : (up : Bool) (g level : ℕ) → moved up g level ≤ level + 1
+moved-rise up g level = go (eqb g 1) up
+  where
+    go : (b up : Bool) → cond b (cond up (level + 1) (level - 1)) level ≤ level + 1
+    go true true = omega arith
+    go true false = omega arith
+    go false up = omega arith
+
+pub leveled-rise : (m : Memory) (level o g : ℕ) → leveled m level o g ≤ level + 1
+unfolding leveled
+leveled-rise Ram level o g = omega arith
+leveled-rise Rom level o g = omega arith
+leveled-rise Set level o g = omega arith
+leveled-rise Stack level o g = moved-rise (eqb o 4) g level
+leveled-rise Queue level o g = moved-rise (eqb o 6) g level
+
+pub inits-turn : (q place : ℕ) (inits : List ℕ) (k : ℕ) → 4 * k + 4 ≤ length inits
+    → initsScanned q place (drop k (inputsIn inits))
+    ≡ cond (eqb (initFault q (inputAt inits k)) 0) (initsScanned q (suc place) (drop (suc k) (inputsIn inits))) (placed (initFault q (inputAt inits k)) place)
+unfolding initsScanned
+inits-turn q place inits k h = ap (initsScanned q place) (inputs-cons inits k h)
+
+pub scan-turn : (q : ℕ) (m : Memory) (values : List ℕ) (level place : ℕ) (ops : List ℕ) (k : ℕ) → 4 * k + 4 ≤ length ops
+    → scanned q m values level place (drop k (inputsIn ops))
+    ≡ cond (eqb (faultAt q m values level (inputAt ops k)) 0)
+    (scanned q m values (leveled m level (opAt ops k) (guardAt ops k)) (suc place) (drop (suc k) (inputsIn ops)))
+    (placed (faultAt q m values level (inputAt ops k)) place)
+unfolding scanned inputAt
+scan-turn q m values level place ops k h =
+    ap (scanned q m values level place) (inputs-cons ops k h)
+    ∙ ap (λ (l : ℕ). cond (eqb (faultAt q m values level (inputAt ops k)) 0) (scanned q m values l (suc place) (drop (suc k) (inputsIn ops))) (placed (faultAt q m values level (inputAt ops k)) place))
+    (leveled-coded m level (opAt ops k) (guardAt ops k))

@@ -1,0 +1,221 @@
+-- A run of members: the scratch words count the lookups of each element, of equal ones at the first.
+--     set-start       before the first member
+--     set-ready, set-turn    a member is possible, and after it the run is one member further
+--     set-ends        after all of them the counts give the end rows
+-- Assumes nothing.
+use Prim.Native.Nat.{ℕ, zero, suc, _+_, _-_, _*_, _≤_, _<_}
+use native.Mathlib.Omega.{arith}
+use native.Mathlib.Decide.{ℕ-discrete}
+use mathlib.Core.Bool.{Bool, true, false, cond, _||_}
+use mathlib.Core.Path.{_≡_, refl, sym, ap, subst, _∙_}
+use mathlib.Core.List.{List, [], _∷_}
+use lib.Dec.{eqb, ltb}
+use lib.ListN.{length, getD, drop, length-set, drop-of-length-le}
+use lib.Seq.{sets, getD-set-same, getD-set-other, drop-cons}
+use borrow.Author.Tests.{ltb-true, ltb-false, eqb-true, eq-eqb, ne-eqb, lt-ltb, le-ltb}
+use Rattle.memory.specs.declared.Memory.the-variants.{Set}
+use Rattle.memory.specs.declared.Row.{Row}
+use Rattle.memory.specs.Plain.{among}
+use Rattle.memory.specs.Honest.{Input, filledRow, endRow, occurrences, setFrom, setEndsFrom, operationsFilled}
+use Rattle.memory.specs.Filler.{inputsIn, rowNumbers}
+use Rattle.filler.specs.Words.{opAt, guardAt, addrAt, valueAt, inputAt, copied, valuesIn, firstAt}
+use Rattle.filler.specs.Steps.{few, counted, setKey, setTurn, SetReady}
+use Rattle.filler.specs.Ends.{valueEnds}
+use Rattle.filler.specs.Scan.{leveled}
+use Rattle.filler.proofs.Inputs.{inputs-count, values-count}
+use Rattle.filler.proofs.Members.{among-first, first-at, first-low}
+use Rattle.filler.proofs.Onward.{Given, Onward, onward-start, onward-next, onward-as, Clean, CleanTurn, clean-turn, form-set, inside-set, copied-words}
+use Rattle.filler.proofs.Counts.{occurrences-few, occurrences-same, occurrences-other}
+
+-- the lookups that element j is given
+abbrev share : List ℕ → List ℕ → ℕ → ℕ
+share values keys j = cond (eqb (firstAt (getD values j 0) values) j) (occurrences (getD values j 0) keys) 0
+
+pub record SetRun (w t : ℕ) (inits ops out₀ : List ℕ) (k : ℕ) (out s : List ℕ) : Type 0 where
+  pub keys : List ℕ
+  pub looked : length keys ≡ k
+  pub counts : (j : ℕ) → j < w → getD s (w + j) 0 ≡ share (valuesIn inits) keys j
+  pub roomy : 2 * w + t ≤ length s
+  pub onward : Onward (operationsFilled Set t (valuesIn inits) (inputsIn ops)) (setFrom (valuesIn inits) keys (drop k (inputsIn ops))) k out₀ out
+  pub clean : Clean Set (valuesIn inits) w (drop k (inputsIn ops))
+
+module _ (w t : ℕ) (inits ops out₀ : List ℕ) (given : Given w t ops out₀) (count : 4 * w ≡ length inits) (k : ℕ) (out s : List ℕ) (run : SetRun w t inits ops out₀ k out s) (more : k < t) where
+  set-clean : CleanTurn Set (valuesIn inits) w ops k
+  set-clean = clean-turn Set (valuesIn inits) w ops k (let g = given .rows in omega arith) (run .clean)
+
+  values : List ℕ
+  values = valuesIn inits
+
+  -- the element looked up, and its first place
+  x : ℕ
+  x = valueAt ops k
+
+  key : ℕ
+  key = firstAt x values
+
+  many : length values ≡ w
+  unfolding values
+  many = values-count inits w count
+
+  member : key < length values
+  unfolding key x values
+  member =
+      ltb-true key (length values)
+      (sym (among-first x values) ∙ inside-set (valuesIn inits) w (opAt ops k) (guardAt ops k) (addrAt ops k) (valueAt ops k) (set-clean .here .possible))
+
+  key-at : getD values key 0 ≡ x
+  unfolding key
+  key-at = first-at x values member
+
+  -- the first place of the element there is the place itself
+  key-first : eqb (firstAt (getD values key 0) values) key ≡ true
+  unfolding key
+  key-first = eq-eqb _ _ (ap (λ (y : ℕ). firstAt y values) key-at)
+
+  version : getD s (w + key) 0 ≡ occurrences x (run .keys)
+  unfolding values
+  version =
+      let m = member in
+      let c = many in
+      run .counts key (omega arith) ∙ ap (λ (b : Bool). cond b (occurrences (getD values key 0) (run .keys)) 0) key-first ∙ ap (λ (y : ℕ). occurrences y (run .keys)) key-at
+
+  pub set-ready : SetReady w k inits ops s
+  unfolding key x values
+  set-ready = record {
+    held = count;
+    countable = record {
+      inside = let r = run .roomy in let m = member in let c = many in omega arith;
+      low = omega (arith, version, occurrences-few x (run .keys), run .looked, given .short);
+    };
+  }
+
+  counts′ : (j : ℕ) → j < w → getD (counted s (w + key)) (w + j) 0 ≡ share values (x ∷ run .keys) j
+  unfolding values key
+  counts′ j h = go (ℕ-discrete j key)
+    where
+      other : (j ≡ key → ⊥) → (b : Bool) → eqb (firstAt (getD values j 0) values) j ≡ b → cond b (occurrences (getD values j 0) (run .keys)) 0 ≡ cond b (occurrences (getD values j 0) (x ∷ run .keys)) 0
+      other n true e = sym (occurrences-other (getD values j 0) x (run .keys) (λ q. n (sym (eqb-true _ j e) ∙ ap (λ (y : ℕ). firstAt y values) q)))
+      other n false e = refl
+
+      go : Dec (j ≡ key) → getD (counted s (w + key)) (w + j) 0 ≡ share values (x ∷ run .keys) j
+      go (yes e) =
+          let r = run .roomy in
+          let m = member in
+          let c = many in
+          ap (λ (i : ℕ). getD (counted s (w + key)) (w + i) 0) e
+          ∙ getD-set-same s (w + key) (getD s (w + key) 0 + 1) 0 (omega arith)
+          ∙ ap (λ (n : ℕ). n + 1) (version ∙ ap (λ (y : ℕ). occurrences y (run .keys)) (sym key-at))
+          ∙ sym (occurrences-same (getD values key 0) x (run .keys) key-at)
+          ∙ sym (ap (λ (b : Bool). cond b (occurrences (getD values key 0) (x ∷ run .keys)) 0) key-first)
+          ∙ ap (share values (x ∷ run .keys)) (sym e)
+      go (no n) = getD-set-other s (w + key) (w + j) (getD s (w + key) 0 + 1) 0 (λ e. n (omega arith)) ∙ run .counts j h ∙ other n (eqb (firstAt (getD values j 0) values) j) refl
+
+  pub set-turn : SetRun w t inits ops out₀ (k + 1) (sets out (7 * k) (setTurn w k inits ops s .words)) (setTurn w k inits ops s .scratch)
+  unfolding setTurn setFrom leveled inputAt key x values
+  set-turn = record {
+    keys = x ∷ run .keys;
+    looked = let l = run .looked in omega arith;
+    counts = counts′;
+    roomy = subst (λ (n : ℕ). 2 * w + t ≤ n) (sym (length-set s (w + key) (getD s (w + key) 0 + 1))) (run .roomy);
+    onward = onward-next w t ops given more (setFrom values (run .keys)) (setFrom values (x ∷ run .keys))
+        (filledRow (inputAt ops k) 0 0 (occurrences x (run .keys)))
+        (setTurn w k inits ops s .words)
+        (run .onward)
+        refl
+        (copied-words ops k 0 0 (getD s (w + key) 0) (omega (arith, form-set (opAt ops k) (guardAt ops k) (addrAt ops k) (valueAt ops k) (set-clean .here .formed)))
+        ∙ ap (λ (v : ℕ). rowNumbers (filledRow (inputAt ops k) 0 0 v ∷ [])) version);
+    clean = set-clean .later;
+  }
+
+-- counts of the elements from j on give the end rows of the elements from there on, where `earlier` are the elements before
+module _ (w : ℕ) (values s keys : List ℕ) (counts : (j : ℕ) → j < w → getD s (w + j) 0 ≡ share values keys j) (many : length values ≡ w) where
+  -- the element at j is among those before it unless j is its first place
+  first-or-among : (j : ℕ) (earlier : List ℕ) → j < w → ((x : ℕ) → among x earlier ≡ ltb (firstAt x values) j)
+      → share values keys j ≡ cond (among (getD values j 0) earlier) 0 (occurrences (getD values j 0) keys)
+  first-or-among j earlier h before = go (ℕ-discrete (firstAt v values) j)
+    where
+      v : ℕ
+      v = getD values j 0
+
+      low : firstAt v values ≤ j
+      low = first-low v values j (omega (arith, many)) refl
+
+      go : Dec (firstAt v values ≡ j) → share values keys j ≡ cond (among v earlier) 0 (occurrences v keys)
+      go (yes e) =
+          ap (λ (b : Bool). cond b (occurrences v keys) 0) (eq-eqb _ _ e)
+          ∙ sym (ap (λ (b : Bool). cond b 0 (occurrences v keys)) (before v ∙ le-ltb (firstAt v values) j (omega arith)))
+      go (no n) =
+          ap (λ (b : Bool). cond b (occurrences v keys) 0) (ne-eqb _ _ n)
+          ∙ sym (ap (λ (b : Bool). cond b 0 (occurrences v keys)) (before v ∙ lt-ltb (firstAt v values) j (less low n)))
+        where
+          less : firstAt v values ≤ j → (firstAt v values ≡ j → ⊥) → firstAt v values < j
+          less a b = omega arith
+
+  -- one element more before
+  before-more : (j : ℕ) (earlier : List ℕ) → j < w → ((x : ℕ) → among x earlier ≡ ltb (firstAt x values) j)
+      → (x : ℕ) → among x (getD values j 0 ∷ earlier) ≡ ltb (firstAt x values) (suc j)
+  unfolding among
+  before-more j earlier h before x = go (ℕ-discrete x (getD values j 0))
+    where
+      go : Dec (x ≡ getD values j 0) → (eqb x (getD values j 0) || among x earlier) ≡ ltb (firstAt x values) (suc j)
+      go (yes e) =
+          ap (λ (b : Bool). b || among x earlier) (eq-eqb _ _ e)
+          ∙ sym (lt-ltb (firstAt x values) (suc j) (let l = first-low x values j (omega (arith, many)) (sym e) in omega arith))
+      go (no n) = ap (λ (b : Bool). b || among x earlier) (ne-eqb _ _ n) ∙ before x ∙ skipped (ℕ-discrete (firstAt x values) j)
+        where
+          skipped : Dec (firstAt x values ≡ j) → ltb (firstAt x values) j ≡ ltb (firstAt x values) (suc j)
+          skipped (yes e) = absurd (n (sym (ap (λ (i : ℕ). getD values i 0) (sym e) ∙ first-at x values (omega (arith, many)))))
+          skipped (no m) = go′ (ltb (firstAt x values) j) refl
+            where
+              go′ : (b : Bool) → ltb (firstAt x values) j ≡ b → b ≡ ltb (firstAt x values) (suc j)
+              go′ true e = sym (lt-ltb (firstAt x values) (suc j) (let l = ltb-true (firstAt x values) j e in omega arith))
+              go′ false e = sym (le-ltb (firstAt x values) (suc j) (let l = ltb-false (firstAt x values) j e in more l m))
+                where
+                  more : j ≤ firstAt x values → (firstAt x values ≡ j → ⊥) → suc j ≤ firstAt x values
+                  more a b = omega arith
+
+  set-ends-from : (vs earlier : List ℕ) (j : ℕ) → drop j values ≡ vs → j + length vs ≡ w → ((x : ℕ) → among x earlier ≡ ltb (firstAt x values) j)
+      → setEndsFrom earlier vs keys ≡ valueEnds (w + j) vs s
+  unfolding setEndsFrom valueEnds
+  set-ends-from [] earlier j e l before = refl
+  set-ends-from (v ∷ vs) earlier j e l before =
+      let low : j < w = omega arith in
+      let split : drop j values ≡ getD values j 0 ∷ drop (suc j) values = drop-cons values j 0 (omega (arith, many)) in
+      let head : getD values j 0 ≡ v = ap (λ (r : List ℕ). getD r 0 0) (sym split ∙ e) in
+      let tail : drop (suc j) values ≡ vs = ap (λ (r : List ℕ). drop 1 r) (sym split ∙ e) in
+      let version : cond (among v earlier) 0 (occurrences v keys) ≡ getD s (w + j) 0 =
+      ap (λ (y : ℕ). cond (among y earlier) 0 (occurrences y keys)) (sym head) ∙ sym (first-or-among j earlier low before) ∙ sym (counts j low) in
+      let later = set-ends-from vs (v ∷ earlier) (suc j) tail (omega arith) (subst (λ (y : ℕ). (x : ℕ) → among x (y ∷ earlier) ≡ ltb (firstAt x values) (suc j)) head (before-more j earlier low before)) in
+      (λ i. endRow v 0 0 (version i) ∷ later i) ∙ ap (λ (n : ℕ). endRow v 0 0 (getD s (w + j) 0) ∷ valueEnds n vs s) (step w j)
+    where
+      step : (w j : ℕ) → w + suc j ≡ suc (w + j)
+      step w j = omega arith
+
+pub set-ends : (w t : ℕ) (inits ops out₀ out s : List ℕ) → Given w t ops out₀ → 4 * w ≡ length inits → (run : SetRun w t inits ops out₀ t out s)
+    → Onward (operationsFilled Set t (valuesIn inits) (inputsIn ops)) (valueEnds w (valuesIn inits) s) t out₀ out
+unfolding setFrom among
+set-ends w t inits ops out₀ out s given count run =
+    let past : drop t (inputsIn ops) ≡ [] = drop-of-length-le (inputsIn ops) {i = t} (omega (arith, inputs-count ops t (given .rows))) in
+    let many : length (valuesIn inits) ≡ w = values-count inits w count in
+    let start : w + 0 ≡ w = omega arith in
+    onward-as (valueEnds w (valuesIn inits) s)
+    (ap (setFrom (valuesIn inits) (run .keys)) past
+    ∙ set-ends-from w (valuesIn inits) s (run .keys) (run .counts) many (valuesIn inits) [] 0 refl (omega arith) (λ x. sym (le-ltb (firstAt x (valuesIn inits)) 0 (omega arith)))
+    ∙ ap (λ (j : ℕ). valueEnds j (valuesIn inits) s) start)
+    (run .onward)
+
+pub set-start : (w t : ℕ) (inits ops out s : List ℕ) → ((j : ℕ) → getD s j 0 ≡ 0) → 2 * w + t ≤ length s → Clean Set (valuesIn inits) w (inputsIn ops)
+    → SetRun w t inits ops out 0 out s
+unfolding operationsFilled occurrences
+set-start w t inits ops out s zeros roomy clean = record {
+  keys = [];
+  looked = refl;
+  counts = λ j h. zeros (w + j) ∙ none (eqb (firstAt (getD (valuesIn inits) j 0) (valuesIn inits)) j);
+  roomy = roomy;
+  onward = onward-start _ out;
+  clean = clean;
+}
+  where
+    none : (b : Bool) → _≡_ {A = ℕ} 0 (cond b 0 0)
+    none true = refl
+    none false = refl

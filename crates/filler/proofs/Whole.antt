@@ -1,0 +1,140 @@
+-- What a fill leaves, as the definition has it.
+--     blank-all       words that are all 0
+--     sized-few, allowed-size, allowed-count    what an allowed size and count are
+--     refused-is, filled-is    a refused row, and a fill
+--     away-unknown … away-scratch, not-away    what the library answers before it reads a row
+--     init-words-count, op-words-count, parts-filled    the rows in two parts, as they are lent
+-- Assumes nothing.
+use Prim.Native.Nat.{ℕ, zero, suc, _+_, _-_, _*_, _≤_, _<_}
+use native.Mathlib.Omega.{arith}
+use native.Mathlib.Nat.{zero-add}
+use mathlib.Core.Bool.{Bool, true, false, cond, _&&_}
+use mathlib.Core.Option.{none, some}
+use mathlib.Core.Path.{_≡_, refl, sym, ap, _∙_}
+use mathlib.Core.List.{List, [], _∷_, _++_, map}
+use lib.Dec.{eqb, leb}
+use lib.ListN.{length, getD, take, drop, replicate, length-drop}
+use lib.Seq.{length-take-le}
+use borrow.Author.Tests.{eq-eqb, ne-eqb, leb-true, eqb-true, le-leb, lt-leb}
+use Rattle.field.specs.Field.{p}
+use Rattle.memory.specs.declared.Memory.{Memory}
+use Rattle.memory.specs.declared.Memory.the-variants.{Ram, Rom, Set, Stack, Queue}
+use Rattle.memory.specs.declared.Row.{Row}
+use Rattle.memory.specs.Rows.{limit, sized, allowed}
+use Rattle.memory.specs.Honest.{Input, filledRows}
+use Rattle.memory.specs.Filler.{inputsIn, rowNumbers, rowsFault, Placed, Filling, memoryCoded, room, turnedAway, rowRefused, filledWith, fillRows, fillMemory, fillOf}
+use Rattle.filler.specs.declared.Filled.the-variants.{Rows, Refused}
+use Rattle.filler.specs.Answer.{answerOf, placeOf, countOf, fillingOf}
+use Rattle.filler.specs.Words.{valuesIn, laid}
+use Rattle.filler.specs.Steps.{few}
+use Rattle.filler.proofs.Inputs.{inputs-take, inputs-drop}
+use Rattle.filler.proofs.Laid.{part-lent}
+
+pub blank-all : (n j : ℕ) → _≡_ {A = ℕ} (getD (replicate n 0) j 0) 0
+blank-all zero zero = refl
+blank-all zero (suc j) = refl
+blank-all (suc n) zero = refl
+blank-all (suc n) (suc j) = blank-all n j
+
+and-both : (a b : Bool) → (a && b) ≡ true → (a ≡ true) × (b ≡ true)
+and-both true b e = (refl, e)
+and-both false b e = (e, absurd (no e))
+  where
+    no : false ≡ true → ⊥
+    no e = omega (arith, ap {B = ℕ} (λ b. cond b 0 1) e)
+
+pub sized-few : (m : Memory) (n : ℕ) → sized m n ≡ true → n ≤ few
+unfolding sized limit
+sized-few Ram n e = leb-true n 65536 e
+sized-few Rom n e = leb-true n 65536 e
+sized-few Set n e = leb-true n 65536 e
+sized-few Stack n e = omega (arith, eqb-true n 0 e)
+sized-few Queue n e = omega (arith, eqb-true n 0 e)
+
+pub allowed-size : (m : Memory) (n t : ℕ) → allowed m n t ≡ true → sized m n ≡ true
+unfolding allowed
+allowed-size m n t e = and-both (sized m n) (leb t limit) e .0
+
+pub allowed-count : (m : Memory) (n t : ℕ) → allowed m n t ≡ true → t ≤ few
+unfolding allowed limit
+allowed-count m n t e = leb-true t 65536 (and-both (sized m n) (leb t 65536) e .1)
+
+pub refused-is : (m : Memory) (t : ℕ) (inits ops : List Input) (out s out′ s′ : List ℕ) (number place : ℕ)
+    → number ≡ rowsFault p m (map (λ i. i .value) inits) 1 inits ops .number → place ≡ rowsFault p m (map (λ i. i .value) inits) 1 inits ops .place → (number ≡ 0 → ⊥)
+    → out′ ≡ replicate (length out) 0 → s′ ≡ replicate (length s) 0
+    → fillingOf (Refused number place) out′ s′ ≡ fillRows p m t inits ops out s
+unfolding fillRows fillingOf answerOf placeOf countOf rowRefused
+refused-is m t inits ops out s out′ s′ number place n k fault o b =
+    (λ i. record { answer = n i; place = k i; count = 0; output = o i; scratch = b i })
+    ∙ sym (ap (λ (c : Bool). cond c (filledWith (filledRows m t inits ops) out s) (rowRefused (rowsFault p m (map (λ i. i .value) inits) 1 inits ops) out s)) (ne-eqb (rowsFault p m (map (λ i. i .value) inits) 1 inits ops .number) 0 (λ e. fault (n ∙ e))))
+
+pub filled-is : (m : Memory) (t : ℕ) (inits ops : List Input) (out s out′ s′ : List ℕ) (count : ℕ)
+    → rowsFault p m (map (λ i. i .value) inits) 1 inits ops .number ≡ 0
+    → out′ ≡ laid out 0 (filledRows m t inits ops) → s′ ≡ replicate (length s) 0 → count ≡ length (filledRows m t inits ops)
+    → fillingOf (Rows count) out′ s′ ≡ fillRows p m t inits ops out s
+unfolding fillRows fillingOf answerOf placeOf countOf filledWith laid
+filled-is m t inits ops out s out′ s′ count clean o b c =
+    let R : List ℕ = rowNumbers (filledRows m t inits ops) in
+    let written : out′ ≡ R ++ drop (length R) out = o ∙ ap (λ (n : ℕ). R ++ drop n out) (zero-add (length R)) in
+    (λ i. record { answer = 0; place = 0; count = c i; output = written i; scratch = b i })
+    ∙ sym (ap (λ (x : Bool). cond x (filledWith (filledRows m t inits ops) out s) (rowRefused (rowsFault p m (map (λ i. i .value) inits) 1 inits ops) out s)) (eq-eqb (rowsFault p m (map (λ i. i .value) inits) 1 inits ops .number) 0 clean))
+
+-- the rows in two parts, as they are lent
+module _ (rows : List ℕ) (n t : ℕ) (all : length rows ≡ 4 * (n + t)) where
+  abbrev pub initWords : List ℕ
+  initWords = take (4 * n) rows
+
+  abbrev pub opWords : List ℕ
+  opWords = take (length rows - 4 * n) (drop (4 * n) rows)
+
+  pub init-words-count : 4 * n ≡ length initWords
+  init-words-count = sym (length-take-le (4 * n) rows (omega arith))
+
+  pub op-words-count : 4 * t ≡ length opWords
+  op-words-count = omega (arith, ap length (part-lent rows (4 * n)), length-drop (4 * n) rows)
+
+  pub parts-filled : (m : Memory) (out s : List ℕ)
+      → fillRows p m t (inputsIn initWords) (inputsIn opWords) out s ≡ fillRows p m t (take n (inputsIn rows)) (drop n (inputsIn rows)) out s
+  parts-filled m out s =
+      let inits = inputs-take rows n (omega arith) in
+      let ops = ap inputsIn (part-lent rows (4 * n)) ∙ inputs-drop rows n (omega arith) in
+      λ i. fillRows p m t (inits i) (ops i) out s
+
+-- what the library answers before it reads a row
+module _ (k n t : ℕ) (rows out s : List ℕ) where
+  pub away-unknown : memoryCoded k ≡ none → fillingOf (Refused 4 0) out s ≡ fillOf p k n t rows out s
+  unfolding fillOf fillMemory turnedAway fillingOf answerOf placeOf countOf
+  away-unknown e = simp e
+
+  module _ (m : Memory) (known : memoryCoded k ≡ some m) where
+    pub away-size : sized m n ≡ false → fillingOf (Refused 4 0) out s ≡ fillOf p k n t rows out s
+    unfolding fillOf fillMemory turnedAway fillingOf answerOf placeOf countOf allowed
+    away-size e = simp (known, e)
+
+    module _ (size : sized m n ≡ true) where
+      pub away-count : few < t → fillingOf (Refused 4 0) out s ≡ fillOf p k n t rows out s
+      unfolding fillOf fillMemory turnedAway fillingOf answerOf placeOf countOf allowed limit
+      away-count h = simp (known, size, lt-leb t 65536 h)
+
+      module _ (count : t ≤ few) where
+        pub proper-is : allowed m n t ≡ true
+        unfolding allowed limit
+        proper-is = simp (size, le-leb t 65536 count)
+
+        pub away-rows : (length rows ≡ 4 * (n + t) → ⊥) → fillingOf (Refused 7 0) out s ≡ fillOf p k n t rows out s
+        unfolding fillOf fillMemory turnedAway fillingOf answerOf placeOf countOf
+        away-rows h = simp (known, proper-is, ne-eqb (length rows) (4 * (n + t)) h)
+
+        module _ (all : length rows ≡ 4 * (n + t)) where
+          pub away-out : length out < 7 * room n t → fillingOf (Refused 14 0) out s ≡ fillOf p k n t rows out s
+          unfolding fillOf fillMemory turnedAway fillingOf answerOf placeOf countOf
+          away-out h = simp (known, proper-is, eq-eqb (length rows) (4 * (n + t)) all, lt-leb (7 * room n t) (length out) h)
+
+          module _ (wide : 7 * room n t ≤ length out) where
+            pub away-scratch : length s < room n t → fillingOf (Refused 15 0) out s ≡ fillOf p k n t rows out s
+            unfolding fillOf fillMemory turnedAway fillingOf answerOf placeOf countOf
+            away-scratch h = simp (known, proper-is, eq-eqb (length rows) (4 * (n + t)) all, le-leb (7 * room n t) (length out) wide, lt-leb (room n t) (length s) h)
+
+            pub not-away : room n t ≤ length s → fillRows p m t (take n (inputsIn rows)) (drop n (inputsIn rows)) out s ≡ fillOf p k n t rows out s
+            unfolding fillOf fillMemory
+            not-away h = simp (known, proper-is, eq-eqb (length rows) (4 * (n + t)) all, le-leb (7 * room n t) (length out) wide, le-leb (room n t) (length s) h)

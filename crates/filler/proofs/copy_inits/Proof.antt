@@ -1,0 +1,68 @@
+-- `filler::copy_inits` meets its contract. The invariant of its loop: what is written and the rows left make up the whole, and no row left has a fault.
+-- Assumes nothing.
+use Prim.Native.Nat.{ℕ, _+_, _*_, _≤_, _<_, _-_}
+use native.Mathlib.Omega.{arith}
+use mathlib.Core.Path.{_≡_, refl, sym, ap, _∙_}
+use mathlib.Core.List.{List, map}
+use borrow.Author.Needs.{needs}
+use lib.ListN.{length, drop, drop-of-length-le}
+use Rattle.memory.specs.Honest.{Input, bare}
+use Rattle.memory.specs.Filler.{inputsIn}
+use Rattle.filler.specs.Words.{laid}
+use Rattle.filler.proofs.Inputs.{inputs-count}
+use Rattle.filler.proofs.Laid.{laid-none}
+use Rattle.filler.proofs.InitRows.{CleanInits, clean-init, init-laid}
+use Rattle.filler.proofs.copy_inits.Statement.{statement}
+use Rattle.filler.proofs.copy_inits.Tie as tie
+
+abbrev Inv-loop : tie.InvT-loop
+Inv-loop n inits out₀ k₀ out k = (k ≤ n) × (length out ≡ length out₀) × (laid out₀ 0 (map bare (inputsIn inits)) ≡ laid out (7 * k) (map bare (drop k (inputsIn inits)))) × CleanInits (drop k (inputsIn inits))
+
+abbrev μ-loop : tie.MeasureT-loop
+μ-loop n inits out₀ k₀ out k = n - k
+
+loop-holds : tie.Need-loop-holds Inv-loop μ-loop
+loop-holds c = (omega arith, refl, refl, record { place = 1; none = c .before .before .pre .1 })
+
+copy-requires : tie.Need-copy-requires Inv-loop μ-loop
+copy-requires c κs = record { read = omega arith; room = omega arith }
+
+add-k : tie.Need-add-k Inv-loop μ-loop
+add-k c = search needs
+
+loop-less : tie.Need-loop-less Inv-loop μ-loop
+loop-less c = search needs
+
+loop-again : tie.Need-loop-again Inv-loop μ-loop
+loop-again c = let inits = c .before .before .before .before .before .before .before .before .args .inits .now in
+    let k = c .before .before .before .before .before .loop .k in
+    let inv = c .before .before .before .before .before .loop .inv in
+    let clean = clean-init inits k (omega arith) (inv .3) in (
+      omega arith,
+      omega arith,
+      inv .2 ∙ init-laid inits (c .before .before .before .before .before .loop .out) k (omega arith) (omega arith) (clean .here) ∙ ap (λ (l : List ℕ). laid l (7 * (k + 1)) (map bare (drop (k + 1) (inputsIn inits)))) (sym (c .before .before .copy .ensures)),
+      clean .later,
+    )
+
+same-length : tie.Need-same-length Inv-loop μ-loop
+same-length c = search needs
+
+returns : tie.Need-returns Inv-loop μ-loop
+returns c = let inits = c .before .before .before .before .args .inits .now in
+    let k = c .before .loop .k in
+    let past = drop-of-length-le (inputsIn inits) {i = k} (omega (arith, inputs-count inits (c .before .before .before .before .args .n) (c .before .before .before .before .pre .0 .0))) in
+    sym (c .before .loop .inv .2 ∙ ap (λ (is : List Input). laid (c .before .loop .out) (7 * k) (map bare is)) past ∙ laid-none (c .before .loop .out) (7 * k))
+
+pub copy-inits-spec : {M : Type 1} → statement M
+copy-inits-spec =
+    tie.close
+    (tie.spec
+    Inv-loop
+    μ-loop
+    loop-holds
+    copy-requires
+    add-k
+    loop-less
+    loop-again
+    same-length
+    returns)

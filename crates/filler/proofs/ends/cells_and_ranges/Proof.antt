@@ -1,0 +1,61 @@
+-- `filler::ends::cells_and_ranges` meets its contract.
+-- Assumes nothing.
+use native.Mathlib.Omega.{arith}
+use Prim.Native.Nat.{ℕ, _*_}
+use mathlib.Core.Path.{sym, ap}
+use Rattle.filler.specs.Ends.{cellEnds, ranges}
+use Rattle.filler.proofs.Laid.{laid-handed-on}
+use Rattle.filler.proofs.EndRows.{cells-count}
+use borrow.Author.Needs.{needs}
+use Rattle.filler.proofs.ends.cells_and_ranges.Statement.{statement}
+use Rattle.filler.proofs.ends.cells_and_ranges.Tie as tie
+
+cell-ends-requires : tie.Need-cell-ends-requires
+cell-ends-requires c κs = search needs
+
+mul-from : tie.Need-mul-from
+mul-from c = search needs
+
+mul-range-rows : tie.Need-mul-range-rows
+mul-range-rows c = search needs
+
+mul-range-rows-2 : tie.Need-mul-range-rows-2
+mul-range-rows-2 c = search needs
+
+sub-range-rows : tie.Need-sub-range-rows
+sub-range-rows c = search needs
+
+part-range-rows-start : tie.Need-part-range-rows-start
+part-range-rows-start c = search needs
+
+part-range-rows-end : tie.Need-part-range-rows-end
+part-range-rows-end c = search needs
+
+range-rows-requires : tie.Need-range-rows-requires
+range-rows-requires c κs = search needs
+
+same-length : tie.Need-same-length
+same-length c = search needs
+
+returns : tie.Need-returns
+returns c = laid-handed-on (c .before .before .before .before .before .before .before .before .before .before .args .out .now) (c .before .before .before .before .before .before .cell-ends .last .1 .1 .1 .1 .0) (c .before .before .range-rows .last .1 .1 .1 .0) (7 * c .before .before .before .before .before .before .before .before .before .before .args .count)
+    (cellEnds (c .before .before .before .before .before .before .before .before .before .before .args .w) 0 (c .before .before .before .before .before .before .before .before .before .before .args .count) (c .before .before .before .before .before .before .before .before .before .before .args .scratch .now)) (ranges (2 * c .before .before .before .before .before .before .before .before .before .before .args .w) (c .before .before .before .before .before .before .before .before .before .before .args .t) (c .before .before .before .before .before .before .before .before .before .before .args .scratch .now))
+    (c .before .before .before .before .before .before .cell-ends .ensures)
+    (ap (λ (n : ℕ). 7 * n) (sym (cells-count (c .before .before .before .before .before .before .before .before .before .before .args .w) 0 (c .before .before .before .before .before .before .before .before .before .before .args .count) (c .before .before .before .before .before .before .before .before .before .before .args .scratch .now))))
+    (omega arith)
+    (c .before .before .range-rows .ensures)
+
+pub cells-and-ranges-spec : {M : Type 1} → statement M
+cells-and-ranges-spec =
+    tie.close
+    (tie.spec
+    cell-ends-requires
+    mul-from
+    mul-range-rows
+    mul-range-rows-2
+    sub-range-rows
+    part-range-rows-start
+    part-range-rows-end
+    range-rows-requires
+    same-length
+    returns)

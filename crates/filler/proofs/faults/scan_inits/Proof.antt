@@ -1,0 +1,77 @@
+-- `filler::faults::scan_inits` meets its contract. The invariant of its loop: no init row passed has a fault, so the scan is that of the rows left.
+-- Assumes nothing.
+use Prim.Native.Nat.{ℕ, suc, _+_, _*_, _≤_, _<_, _-_}
+use native.Mathlib.Omega.{arith}
+use native.Mathlib.Numerals.{add-one}
+use mathlib.Core.Path.{_≡_, refl, sym, ap, _∙_}
+use mathlib.Core.List.{List}
+use lib.ListN.{length, drop, drop-of-length-le}
+use borrow.Author.Needs.{needs}
+use borrow.Author.Tests.{eq-eqb, ne-eqb}
+use Rattle.field.specs.Field.{p}
+use Rattle.memory.specs.Honest.{Input}
+use Rattle.memory.specs.Filler.{inputsIn, Placed, placed}
+use Rattle.filler.specs.Scan.{initsScanned}
+use Rattle.filler.proofs.Inputs.{inputs-count}
+use Rattle.filler.proofs.Scanned.{inits-turn}
+use Rattle.filler.proofs.faults.scan_inits.Statement.{statement}
+use Rattle.filler.proofs.faults.scan_inits.Tie as tie
+
+abbrev Inv-loop : tie.InvT-loop
+Inv-loop n inits k₀ k = (k ≤ n) × (initsScanned p 1 (inputsIn inits) ≡ initsScanned p (k + 1) (drop k (inputsIn inits)))
+
+abbrev μ-loop : tie.MeasureT-loop
+μ-loop n inits k₀ k = n - k
+
+loop-holds : tie.Need-loop-holds Inv-loop μ-loop
+loop-holds c = (omega arith, refl)
+
+init-fault-requires : tie.Need-init-fault-requires Inv-loop μ-loop
+init-fault-requires c κs = search needs
+
+add-t6 : tie.Need-add-t6 Inv-loop μ-loop
+add-t6 c = search needs
+
+returns : tie.Need-returns Inv-loop μ-loop
+unfolding placed
+returns c = let inits = c .before .before .before .before .before .args .inits .now in
+    let k = c .before .before .before .loop .k in
+    let found : initsScanned p 1 (inputsIn inits) ≡ placed (c .before .init-fault .result) (k + 1) =
+    c .before .before .before .loop .inv .1 ∙ inits-turn p (k + 1) inits k (omega arith) ∙ simp (sym (c .before .init-fault .ensures), ne-eqb _ _ (c .if1 .taken)) in
+    (ap (λ (f : Placed). f .number) (sym found), ap (λ (f : Placed). f .place) (sym found))
+
+add-k : tie.Need-add-k Inv-loop μ-loop
+add-k c = search needs
+
+loop-less : tie.Need-loop-less Inv-loop μ-loop
+loop-less c = search needs
+
+loop-again : tie.Need-loop-again Inv-loop μ-loop
+loop-again c = let inits = c .before .before .before .before .before .args .inits .now in
+    let k = c .before .before .before .loop .k in (
+      omega arith,
+      c .before .before .before .loop .inv .1 ∙ inits-turn p (k + 1) inits k (omega arith) ∙ simp (sym (c .before .init-fault .ensures), eq-eqb _ _ (c .if1 .left), add-one),
+    )
+
+returns-2 : tie.Need-returns-2 Inv-loop μ-loop
+unfolding initsScanned placed
+returns-2 c = let inits = c .before .before .before .args .inits .now in
+    let k = c .before .loop .k in
+    let past = drop-of-length-le (inputsIn inits) {i = k} (omega (arith, inputs-count inits (c .before .before .before .args .n) (c .before .before .before .pre .0))) in
+    let found : initsScanned p 1 (inputsIn inits) ≡ placed 0 0 = c .before .loop .inv .1 ∙ ap (initsScanned p (k + 1)) past in
+    (ap (λ (f : Placed). f .number) (sym found), ap (λ (f : Placed). f .place) (sym found))
+
+pub scan-inits-spec : {M : Type 1} → statement M
+scan-inits-spec =
+    tie.close
+    (tie.spec
+    Inv-loop
+    μ-loop
+    loop-holds
+    init-fault-requires
+    add-t6
+    returns
+    add-k
+    loop-less
+    loop-again
+    returns-2)

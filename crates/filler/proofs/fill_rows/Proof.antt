@@ -1,0 +1,129 @@
+-- `filler::fill_rows` meets its contract.
+-- Assumes nothing.
+use Prim.Native.Nat.{ℕ, _+_, _*_, _≤_}
+use native.Mathlib.Omega.{arith}
+use mathlib.Core.List.{List}
+use mathlib.Core.Path.{_≡_, sym, ap, _∙_}
+use lib.ListN.{length, drop, length-drop}
+use Rattle.field.specs.Field.{p}
+use Rattle.memory.specs.Filler.{inputsIn, room}
+use Rattle.filler.specs.Words.{valuesIn}
+use Rattle.filler.proofs.Inputs.{inputs-count, values-count}
+use Rattle.filler.proofs.FirstFault.{clean-inits, clean-operations}
+use Rattle.filler.proofs.Whole.{sized-few, allowed-size, allowed-count, refused-is, filled-is, initWords, opWords, init-words-count, op-words-count, parts-filled}
+use borrow.Author.Needs.{needs}
+use Rattle.filler.proofs.fill_rows.Statement.{statement}
+use Rattle.filler.proofs.fill_rows.Tie as tie
+
+mul-from : tie.Need-mul-from
+mul-from c = search needs
+
+slice-aggregate-inits : tie.Need-slice-aggregate-inits
+slice-aggregate-inits c = init-words-count (c .before .before .before .before .args .rows .now) (c .before .before .before .before .args .n) (c .before .before .before .before .args .t) (c .before .before .before .before .pre .all)
+
+mul-ops : tie.Need-mul-ops
+mul-ops c = search needs
+
+sub-ops : tie.Need-sub-ops
+sub-ops c = search needs
+
+part-ops-start : tie.Need-part-ops-start
+part-ops-start c = search needs
+
+part-ops-end : tie.Need-part-ops-end
+part-ops-end c = search needs
+
+scan-requires : tie.Need-scan-requires
+scan-requires c κs = let at = c .before .before .before .before .before .args in
+    let size = allowed-size (at .m) (at .n) (at .t) (c .before .before .before .before .before .pre .proper) in (
+      (
+        init-words-count (at .rows .now) (at .n) (at .t) (c .before .before .before .before .before .pre .all),
+        op-words-count (at .rows .now) (at .n) (at .t) (c .before .before .before .before .before .pre .all),
+        sized-few (at .m) (at .n) size,
+        allowed-count (at .m) (at .n) (at .t) (c .before .before .before .before .before .pre .proper),
+      ),
+      size,
+    )
+
+clear-requires : tie.Need-clear-requires
+clear-requires c κs = search needs
+
+clear-requires-2 : tie.Need-clear-requires-2
+clear-requires-2 c κs = search needs
+
+same-length : tie.Need-same-length
+same-length c = search needs
+
+same-length-2 : tie.Need-same-length-2
+same-length-2 c = search needs
+
+returns : tie.Need-returns
+unfolding valuesIn
+returns c = let at = c .before .before .before .before .before .before .before .before .before .before .before .before .before .before .before .before .args in
+    let rows = at .rows .now in
+    refused-is (at .m) (at .t) (inputsIn (initWords rows (at .n) (at .t) (c .before .before .before .before .before .before .before .before .before .before .before .before .before .before .before .before .pre .all))) (inputsIn (opWords rows (at .n) (at .t) (c .before .before .before .before .before .before .before .before .before .before .before .before .before .before .before .before .pre .all))) (at .out .now) (at .scratch .now) _ _ (c .before .before .before .before .before .before .before .before .before .before .scan .result .number) (c .before .before .before .before .before .before .before .before .before .before .scan .result .place)
+    (c .before .before .before .before .before .before .before .before .before .before .scan .ensures .0) (c .before .before .before .before .before .before .before .before .before .before .scan .ensures .1) (c .before .before .before .before .before .before .before .before .if1 .taken) (c .before .before .before .before .before .before .clear .ensures) (c .before .before .clear2 .ensures)
+    ∙ parts-filled rows (at .n) (at .t) (c .before .before .before .before .before .before .before .before .before .before .before .before .before .before .before .before .pre .all) (at .m) (at .out .now) (at .scratch .now)
+
+write-rows-requires : tie.Need-write-rows-requires
+unfolding room
+write-rows-requires c κs = let at = c .before .before .before .before .before .before .before .before .before .before .args in
+    let rows = at .rows .now in
+    let inits = initWords rows (at .n) (at .t) (c .before .before .before .before .before .before .before .before .before .before .pre .all) in
+    let ops = opWords rows (at .n) (at .t) (c .before .before .before .before .before .before .before .before .before .before .pre .all) in
+    let starting = init-words-count rows (at .n) (at .t) (c .before .before .before .before .before .before .before .before .before .before .pre .all) in
+    let size = allowed-size (at .m) (at .n) (at .t) (c .before .before .before .before .before .before .before .before .before .before .pre .proper) in
+    let values = values-count inits (at .n) starting in
+    let inputs = inputs-count inits (at .n) starting in
+    let none = sym (c .before .before .before .before .scan .ensures .0) ∙ c .before .before .if1 .left in (
+      clean-inits p (at .m) (valuesIn inits) (inputsIn inits) (inputsIn ops) (at .n) values inputs size none,
+      (
+        omega (arith, c .before .before .before .before .before .before .before .before .before .before .pre .out-room),
+        record {
+          size = sized-few (at .m) (at .n) size;
+          count = allowed-count (at .m) (at .n) (at .t) (c .before .before .before .before .before .before .before .before .before .before .pre .proper);
+          allowed = size;
+          starting = starting;
+          operating = op-words-count rows (at .n) (at .t) (c .before .before .before .before .before .before .before .before .before .before .pre .all);
+          out-room = omega (arith, c .before .before .before .before .before .before .before .before .before .before .pre .out-room, length-drop (7 * at .n) (at .out .now));
+          scratch-room = c .before .before .before .before .before .before .before .before .before .before .pre .scratch-room;
+          clean = clean-operations p (at .m) (valuesIn inits) (inputsIn inits) (inputsIn ops) (at .n) values inputs size none;
+        },
+      ),
+    )
+
+same-length-3 : tie.Need-same-length-3
+same-length-3 c = search needs
+
+same-length-4 : tie.Need-same-length-4
+same-length-4 c = search needs
+
+returns-2 : tie.Need-returns-2
+unfolding valuesIn
+returns-2 c = let at = c .before .before .before .before .before .before .before .before .before .before .before .before .before .before .before .args in
+    let rows = at .rows .now in
+    let none = sym (c .before .before .before .before .before .before .before .before .before .scan .ensures .0) ∙ c .before .before .before .before .before .before .before .if1 .left in
+    filled-is (at .m) (at .t) (inputsIn (initWords rows (at .n) (at .t) (c .before .before .before .before .before .before .before .before .before .before .before .before .before .before .before .pre .all))) (inputsIn (opWords rows (at .n) (at .t) (c .before .before .before .before .before .before .before .before .before .before .before .before .before .before .before .pre .all))) (at .out .now) (at .scratch .now) _ _ (c .before .before .before .before .write-rows .result)
+    none (c .before .before .before .before .write-rows .ensures .0) (c .before .before .before .before .write-rows .ensures .1 .0) (c .before .before .before .before .write-rows .ensures .1 .1)
+    ∙ parts-filled rows (at .n) (at .t) (c .before .before .before .before .before .before .before .before .before .before .before .before .before .before .before .pre .all) (at .m) (at .out .now) (at .scratch .now)
+
+pub fill-rows-spec : {M : Type 1} → statement M
+fill-rows-spec =
+    tie.close
+    (tie.spec
+    mul-from
+    slice-aggregate-inits
+    mul-ops
+    sub-ops
+    part-ops-start
+    part-ops-end
+    scan-requires
+    clear-requires
+    clear-requires-2
+    same-length
+    same-length-2
+    returns
+    write-rows-requires
+    same-length-3
+    same-length-4
+    returns-2)

@@ -1,0 +1,44 @@
+-- What a fill comes to, as the document's numbers.
+-- Assumes nothing.
+use Prim.Native.Nat.{ℕ, _+_, _*_, _≤_}
+use mathlib.Core.Bool.{true}
+use mathlib.Core.Option.{Option, none, some}
+use mathlib.Core.Path.{_≡_}
+use mathlib.Core.List.{List}
+use lib.ListN.{length}
+use Rattle.memory.specs.declared.Memory.{Memory}
+use Rattle.memory.specs.Rows.{allowed}
+use Rattle.memory.specs.Filler.{Filling, room}
+use Rattle.filler.specs.declared.Filled.{Filled}
+use Rattle.filler.specs.declared.Filled.the-variants.{Rows, Refused}
+use Rattle.filler.specs.declared.Known.{Known}
+use Rattle.filler.specs.declared.Known.the-variants.{Is, Unknown}
+
+-- the refusal's number and place, or 0 and 0, and how many rows were written
+unfoldable pub answerOf : Filled → ℕ
+answerOf (Rows n) = 0
+answerOf (Refused f k) = f
+
+unfoldable pub placeOf : Filled → ℕ
+placeOf (Rows n) = 0
+placeOf (Refused f k) = k
+
+unfoldable pub countOf : Filled → ℕ
+countOf (Rows n) = n
+countOf (Refused f k) = 0
+
+-- the answer, with both lent slices afterwards
+unfoldable pub fillingOf : Filled → List ℕ → List ℕ → Filling
+fillingOf r out s = record { answer = answerOf r; place = placeOf r; count = countOf r; output = out; scratch = s }
+
+-- the memory that a number stands for
+unfoldable pub knownOf : Known → Option Memory
+knownOf (Is m) = some m
+knownOf Unknown = none
+
+-- as many rows as size and count say, and room
+pub record Roomy (m : Memory) (n t : ℕ) (rows out s : List ℕ) : Type 0 where
+  pub proper : allowed m n t ≡ true
+  pub all : length rows ≡ 4 * (n + t)
+  pub out-room : 7 * room n t ≤ length out
+  pub scratch-room : room n t ≤ length s

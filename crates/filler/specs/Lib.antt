@@ -1,0 +1,6 @@
+pub mod Answer
+pub mod Words
+pub mod Steps
+pub mod Ends
+pub mod Scan
+pub mod Write

@@ -1,0 +1,87 @@
+-- The first fault of the input rows, as a scan finds it that keeps no content: of a ram and a rom the number of cells matters, of a stack and a queue the
+-- depth, of a set the init values. The number of cells, or the depth, is the level.
+-- Assumes nothing.
+use Prim.Native.Nat.{ℕ, zero, suc, _+_, _-_, _*_, _≤_}
+use mathlib.Core.Bool.{Bool, true, false, _&&_, cond}
+use mathlib.Core.Path.{_≡_}
+use mathlib.Core.List.{List, [], _∷_}
+use lib.Dec.{eqb, leb, ltb}
+use lib.ListN.{length}
+use Rattle.memory.specs.declared.Memory.{Memory}
+use Rattle.memory.specs.declared.Memory.the-variants.{Ram, Rom, Set, Stack, Queue}
+use Rattle.memory.specs.declared.Op.the-variants.{Init}
+use Rattle.memory.specs.declared.Phase.the-variants.{Operating}
+use Rattle.memory.specs.Plain.{among}
+use Rattle.memory.specs.Rows.{opsDue}
+use Rattle.memory.specs.Names.{opCode}
+use Rattle.memory.specs.Honest.{Input}
+use Rattle.memory.specs.Filler.{inputFault, Placed, placed}
+
+-- 5 and 6 of a row with one op due
+abbrev pub single : Bool → Bool → ℕ
+single due formed = cond due (cond formed 0 6) 5
+
+-- of a row with two ops due, the second of which has no value
+abbrev pub paired : Bool → Bool → ℕ → ℕ → ℕ → ℕ
+paired first second g a v =
+    cond first (single true (leb g 1 && eqb a 0)) (single second ((leb g 1 && eqb a 0) && eqb v 0))
+
+-- 5 and 6 of an init row, by its words
+unfoldable pub initForm : ℕ → ℕ → ℕ → ℕ → ℕ
+initForm o g a v = single (eqb o 0) (eqb g 0 && eqb a 0)
+
+-- 5 and 6 of an operation, by its words
+unfoldable pub form : Memory → ℕ → ℕ → ℕ → ℕ → ℕ
+form Ram o g a v = single (eqb o 1) (leb g 1)
+form Rom o g a v = single (eqb o 2) (eqb g 0 && eqb v 0)
+form Set o g a v = single (eqb o 3) (eqb g 0 && eqb a 0)
+form Stack o g a v = paired (eqb o 4) (eqb o 5) g a v
+form Queue o g a v = paired (eqb o 6) (eqb o 7) g a v
+
+-- 12: an executed pop or dequeue at depth 0
+abbrev pub emptied : Bool → ℕ → ℕ → ℕ
+emptied up g level = cond up 0 (cond (eqb g 1) (cond (ltb 0 level) 0 12) 0)
+
+-- 11, 12 and 13, at a level
+unfoldable pub refusal : Memory → List ℕ → ℕ → ℕ → ℕ → ℕ → ℕ → ℕ
+refusal Ram values level o g a v = cond (ltb a level) 0 11
+refusal Rom values level o g a v = cond (ltb a level) 0 11
+refusal Set values level o g a v = cond (among v values) 0 13
+refusal Stack values level o g a v = emptied (eqb o 4) g level
+refusal Queue values level o g a v = emptied (eqb o 6) g level
+
+-- the depth after an operation that goes up or down
+abbrev pub moved : Bool → ℕ → ℕ → ℕ
+moved up g level = cond (eqb g 1) (cond up (level + 1) (level - 1)) level
+
+-- the level after an operation
+unfoldable pub leveled : Memory → ℕ → ℕ → ℕ → ℕ
+leveled Ram level o g = level
+leveled Rom level o g = level
+leveled Set level o g = level
+leveled Stack level o g = moved (eqb o 4) g level
+leveled Queue level o g = moved (eqb o 6) g level
+
+-- the fault of an operation at a level: 3, 5, 6, then 11, 12, 13
+unfoldable pub faultAt : ℕ → Memory → List ℕ → ℕ → Input → ℕ
+faultAt q m values level i =
+    cond (eqb (inputFault q m (opsDue m Operating) i) 0)
+    (refusal m values level (opCode (i .op)) (i .guard) (i .addr) (i .value))
+    (inputFault q m (opsDue m Operating) i)
+
+-- the first fault of the operations from a level on, the first of which is row k
+unfoldable pub scanned : ℕ → Memory → List ℕ → ℕ → ℕ → List Input → Placed
+scanned q m values level k [] = placed 0 0
+scanned q m values level k (i ∷ is) =
+    let rest = scanned q m values (leveled m level (opCode (i .op)) (i .guard)) (suc k) is in
+    cond (eqb (faultAt q m values level i) 0) rest (placed (faultAt q m values level i) k)
+
+-- the fault of an init row, the same in every memory, and the first of them
+unfoldable pub initFault : ℕ → Input → ℕ
+initFault q i = inputFault q Ram (Init ∷ []) i
+
+unfoldable pub initsScanned : ℕ → ℕ → List Input → Placed
+initsScanned q k [] = placed 0 0
+initsScanned q k (i ∷ is) =
+    let rest = initsScanned q (suc k) is in
+    cond (eqb (initFault q i) 0) rest (placed (initFault q i) k)

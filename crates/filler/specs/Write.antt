@@ -1,0 +1,60 @@
+-- What the writer of the rows after the init rows is given, and what it leaves.
+-- Assumes nothing.
+use Prim.Native.Nat.{ℕ, _+_, _*_, _≤_, _<_}
+use mathlib.Core.Bool.{true}
+use mathlib.Core.Path.{_≡_}
+use mathlib.Core.List.{List}
+use lib.ListN.{length, getD, drop}
+use Rattle.field.specs.Field.{p}
+use Rattle.memory.specs.declared.Memory.{Memory}
+use Rattle.memory.specs.declared.Memory.the-variants.{Ram, Rom, Set, Stack, Queue}
+use Rattle.memory.specs.Rows.{sized}
+use Rattle.memory.specs.Honest.{operationsFilled}
+use Rattle.memory.specs.Filler.{inputsIn, room}
+use Rattle.filler.specs.declared.steps.Cursor.{Cursor}
+use Rattle.filler.specs.Words.{valuesIn, laid}
+use Rattle.filler.specs.Steps.{few}
+use Rattle.filler.specs.Ends.{ending, EndingFits}
+use Rattle.filler.specs.Scan.{scanned}
+
+-- how many cells the scratch words hold: those of a ram, the keys of a rom or set, or as many as a stack or queue may come to hold
+unfoldable pub widthOf : Memory → ℕ → ℕ → ℕ
+widthOf Ram n t = n
+widthOf Rom n t = n
+widthOf Set n t = n
+widthOf Stack n t = t
+widthOf Queue n t = t
+
+-- init rows and operations without fault, room for the rows after the init rows, and scratch words
+pub record Fillable (m : Memory) (n t : ℕ) (inits ops out s : List ℕ) : Type 0 where
+  pub size : n ≤ few
+  pub count : t ≤ few
+  pub allowed : sized m n ≡ true
+  pub starting : 4 * n ≡ length inits
+  pub operating : 4 * t ≡ length ops
+  pub out-room : 7 * (n + 3 * t) ≤ length out
+  pub scratch-room : 2 * n + 3 * t ≤ length s
+  pub clean : scanned p m (valuesIn inits) n (n + 1) (inputsIn ops) .number ≡ 0
+
+-- scratch words that are all 0
+abbrev pub Blank : List ℕ → Type 0
+Blank s = (j : ℕ) → getD s j 0 ≡ 0
+
+-- the first n scratch words hold values, and the others are 0
+pub record Filled-in (n : ℕ) (values s : List ℕ) : Type 0 where
+  pub first : (j : ℕ) → j < n → getD s j 0 ≡ getD values j 0
+  pub others : (j : ℕ) → getD s (n + j) 0 ≡ 0
+
+-- the scratch words before the first operation
+abbrev pub Prepared : Memory → ℕ → List ℕ → List ℕ → Type 0
+Prepared Ram n inits s = Filled-in n (valuesIn inits) s
+Prepared Rom n inits s = Blank s
+Prepared Set n inits s = Blank s
+Prepared Stack n inits s = Blank s
+Prepared Queue n inits s = Blank s
+
+-- after the operations: what is written, with the rows that the scratch words give, is all rows
+pub record Ended (m : Memory) (n t : ℕ) (inits ops out₀ out s : List ℕ) (at : Cursor) : Type 0 where
+  pub whole : laid out₀ 0 (operationsFilled m t (valuesIn inits) (inputsIn ops)) ≡ laid out (7 * t) (ending m (widthOf m n t) t at inits s)
+  pub counted : length (operationsFilled m t (valuesIn inits) (inputsIn ops)) ≡ t + length (ending m (widthOf m n t) t at inits s)
+  pub fits : EndingFits m (widthOf m n t) t at inits s (drop (7 * t) out)

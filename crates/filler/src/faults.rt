@@ -1,0 +1,261 @@
+// The first fault of the input rows. Nothing is written: of a ram and a rom the number of cells matters, of a stack and a queue the depth, of a set the
+// init values. The number of cells, or the depth, is the level.
+use super::steps;
+use field::Field;
+use memory::Memory;
+ghost use mathlib.Core.Bool.{true, false, _&&_, cond};
+ghost use mathlib.Core.List.{[], _∷_};
+ghost use mathlib.Core.Path.{_≡_};
+ghost use Prim.Native.Nat.{suc, _+_, _*_, _≤_};
+ghost use lib.Dec.{eqb};
+ghost use lib.ListN.{length};
+ghost use Rattle.field.specs.Field.{p};
+ghost use Rattle.memory.specs.Bytes.{allBelow};
+ghost use Rattle.memory.specs.Filler.{inputsIn, rowsFault};
+ghost use Rattle.memory.specs.Rows.{sized};
+ghost use Rattle.filler.specs.Words.{inputAt, valuesIn};
+ghost use Rattle.filler.specs.Steps.{few};
+ghost use Rattle.filler.specs.Scan.{single, paired, initForm, form, emptied, refusal, moved, leveled, faultAt, scanned, initFault, initsScanned};
+
+// The number and the place of a fault; 0 and 0 where there is none.
+pub struct Fault {
+    pub number: u32,
+    pub place: usize,
+}
+
+const ACCESS: u32 = 1;
+
+const LOOK: u32 = 2;
+
+const MEMBER: u32 = 3;
+
+const PUSH: u32 = 4;
+
+const POP: u32 = 5;
+
+const ENQUEUE: u32 = 6;
+
+const DEQUEUE: u32 = 7;
+
+// 3: whether the numbers of a row are below p.
+fn below(guard: u32, addr: u32, value: u32) -> bool
+    ensures { λ r. ⌜ r ≡ allBelow p (guard ∷ addr ∷ value ∷ []) ⌝ }
+{
+    if guard >= Field::MODULUS {
+        return false;
+    }
+    if addr >= Field::MODULUS {
+        return false;
+    }
+    value < Field::MODULUS
+}
+
+// 5 and 6 of a row with one op due.
+fn single(due: bool, formed: bool) -> u32
+    ensures { λ r. ⌜ r ≡ single due formed ⌝ }
+{
+    if due { if formed { 0 } else { 6 } } else { 5 }
+}
+
+// 5 and 6 of a row with two ops due, the second of which has no value.
+fn paired(first: bool, second: bool, guard: u32, addr: u32, value: u32) -> u32
+    ensures { λ r. ⌜ r ≡ paired first second guard addr value ⌝ }
+{
+    let formed = (guard <= 1) & (addr == 0);
+    if first {
+        return single(true, formed);
+    }
+    single(second, formed & (value == 0))
+}
+
+// 5 and 6 of an operation.
+fn form(m: Memory, op: u32, guard: u32, addr: u32, value: u32) -> u32
+    ensures { λ r. ⌜ r ≡ form m op guard addr value ⌝ }
+{
+    match m {
+        Memory::Ram => single(op == ACCESS, guard <= 1),
+        Memory::Rom => single(op == LOOK, (guard == 0) & (value == 0)),
+        Memory::Set => single(op == MEMBER, (guard == 0) & (addr == 0)),
+        Memory::Stack => paired(op == PUSH, op == POP, guard, addr, value),
+        Memory::Queue => paired(op == ENQUEUE, op == DEQUEUE, guard, addr, value),
+    }
+}
+
+// 12: an executed pop or dequeue at depth 0.
+fn emptied(up: bool, guard: u32, level: usize) -> u32
+    ensures { λ r. ⌜ r ≡ emptied up guard level ⌝ }
+{
+    if up {
+        return 0;
+    }
+    if guard != 1 {
+        return 0;
+    }
+    if 0 < level { 0 } else { 12 }
+}
+
+// 11, where an address is not below the level.
+fn outside(addr: u32, level: usize) -> u32
+    ensures { λ r. ⌜ r ≡ refusal Memory.Ram [] level 0 0 addr 0 ⌝ }
+{
+    if (addr as usize) < level { 0 } else { 11 }
+}
+
+// 13, where a value is not in the set.
+fn missing(n: usize, inits: &[u32], value: u32) -> u32
+    requires { ⌜ 4 * n ≡ length (now inits) ⌝ }
+    ensures { λ r. ⌜ r ≡ refusal Memory.Set (valuesIn (now (inits .entry))) 0 0 0 0 value ⌝ }
+{
+    if steps::find(n, inits, value) < n {
+        0
+    } else {
+        13
+    }
+}
+
+// 11, 12 and 13, at a level.
+fn refusal(
+    m: Memory,
+    n: usize,
+    level: usize,
+    inits: &[u32],
+    op: u32,
+    guard: u32,
+    addr: u32,
+    value: u32,
+) -> u32
+    requires { ⌜ 4 * n ≡ length (now inits) ⌝ }
+    ensures { λ r. ⌜ r ≡ refusal m (valuesIn (now (inits .entry))) level op guard addr value ⌝ }
+{
+    match m {
+        Memory::Ram => outside(addr, level),
+        Memory::Rom => outside(addr, level),
+        Memory::Set => missing(n, inits, value),
+        Memory::Stack => emptied(op == PUSH, guard, level),
+        Memory::Queue => emptied(op == ENQUEUE, guard, level),
+    }
+}
+
+// The depth after an operation that goes up or down.
+fn moved(up: bool, guard: u32, level: usize) -> usize
+    requires { ⌜ level ≤ 2 * few ⌝ }
+    ensures { λ r. ⌜ r ≡ moved up guard level ⌝ }
+{
+    if guard != 1 {
+        return level;
+    }
+    if up {
+        return level + 1;
+    }
+    if 0 < level { level - 1 } else { 0 }
+}
+
+// The level after an operation.
+fn leveled(m: Memory, level: usize, op: u32, guard: u32) -> usize
+    requires { ⌜ level ≤ 2 * few ⌝ }
+    ensures { λ r. ⌜ r ≡ leveled m level op guard ⌝ }
+{
+    match m {
+        Memory::Ram => level,
+        Memory::Rom => level,
+        Memory::Set => level,
+        Memory::Stack => moved(op == PUSH, guard, level),
+        Memory::Queue => moved(op == ENQUEUE, guard, level),
+    }
+}
+
+// The fault of an init row.
+fn init_fault(k: usize, inits: &[u32]) -> u32
+    requires { ⌜ 4 * k + 4 ≤ length (now inits) ⌝ }
+    ensures { λ r. ⌜ r ≡ initFault p (inputAt (now (inits .entry)) k) ⌝ }
+{
+    let from = 4 * k;
+    let guard = inits[from + 1];
+    let addr = inits[from + 2];
+    if below(guard, addr, inits[from + 3]) {
+        single(inits[from] == 0, (guard == 0) & (addr == 0))
+    } else {
+        3
+    }
+}
+
+// The fault of an operation at a level: 3, 5, 6, then 11, 12, 13.
+fn operation_fault(m: Memory, n: usize, level: usize, k: usize, inits: &[u32], ops: &[u32]) -> u32
+    requires { ⌜ (4 * n ≡ length (now inits)) × (4 * k + 4 ≤ length (now ops)) ⌝ }
+    ensures { λ r. ⌜ r ≡ faultAt p m (valuesIn (now (inits .entry))) level (inputAt (now (ops .entry)) k) ⌝ }
+{
+    let from = 4 * k;
+    let op = ops[from];
+    let guard = ops[from + 1];
+    let addr = ops[from + 2];
+    let value = ops[from + 3];
+    if below(guard, addr, value) {
+        let fault = form(m, op, guard, addr, value);
+        if fault != 0 {
+            return fault;
+        }
+        refusal(m, n, level, inits, op, guard, addr, value)
+    } else {
+        3
+    }
+}
+
+// The first fault of the init rows.
+pub fn scan_inits(n: usize, inits: &[u32]) -> Fault
+    requires { ⌜ (4 * n ≡ length (now inits)) × (n ≤ few) ⌝ }
+    ensures { λ r. ⌜ (r .number ≡ initsScanned p 1 (inputsIn (now (inits .entry))) .number) × (r .place ≡ initsScanned p 1 (inputsIn (now (inits .entry))) .place) ⌝ }
+{
+    let mut k = 0;
+    while k < n {
+        let number = init_fault(k, inits);
+        if number != 0 {
+            return Fault {
+                number,
+                place: k + 1,
+            };
+        }
+        k += 1;
+    }
+    Fault {
+        number: 0,
+        place: 0,
+    }
+}
+
+// The first fault of the operations.
+pub fn scan_operations(m: Memory, n: usize, t: usize, inits: &[u32], ops: &[u32]) -> Fault
+    requires { ⌜ (4 * n ≡ length (now inits)) × (4 * t ≡ length (now ops)) × (n ≤ few) × (t ≤ few) ⌝ }
+    ensures { λ r. ⌜ (r .number ≡ scanned p m (valuesIn (now (inits .entry))) n (n + 1) (inputsIn (now (ops .entry))) .number) × (r .place ≡ scanned p m (valuesIn (now (inits .entry))) n (n + 1) (inputsIn (now (ops .entry))) .place) ⌝ }
+{
+    let mut level = n;
+    let mut k = 0;
+    while k < t {
+        let number = operation_fault(m, n, level, k, inits, ops);
+        if number != 0 {
+            return Fault {
+                number,
+                place: n + k + 1,
+            };
+        }
+        level = leveled(m, level, ops[4 * k], ops[4 * k + 1]);
+        k += 1;
+    }
+    Fault {
+        number: 0,
+        place: 0,
+    }
+}
+
+// The first fault of all rows.
+pub fn scan(m: Memory, n: usize, t: usize, inits: &[u32], ops: &[u32]) -> Fault
+    requires { ⌜ (4 * n ≡ length (now inits)) × (4 * t ≡ length (now ops)) × (n ≤ few) × (t ≤ few) ⌝ }
+    requires { ⌜ sized m n ≡ true ⌝ }
+    ensures number { λ r. ⌜ r .number ≡ rowsFault p m (valuesIn (now (inits .entry))) 1 (inputsIn (now (inits .entry))) (inputsIn (now (ops .entry))) .number ⌝ }
+    ensures place { λ r. ⌜ r .place ≡ rowsFault p m (valuesIn (now (inits .entry))) 1 (inputsIn (now (inits .entry))) (inputsIn (now (ops .entry))) .place ⌝ }
+{
+    let first = scan_inits(n, inits);
+    if first.number != 0 {
+        return first;
+    }
+    scan_operations(m, n, t, inits, ops)
+}

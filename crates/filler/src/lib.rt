@@ -1,0 +1,159 @@
+// Operations to advice: the filler's library. Rows are numbers in slices: 4 words an input row, 7 words an output row.
+use memory::Memory;
+
+mod ends;
+mod faults;
+mod rows;
+mod steps;
+mod write;
+
+ghost use mathlib.Core.Bool.{_&&_};
+ghost use mathlib.Core.List.{map};
+ghost use mathlib.Core.Path.{_≡_};
+ghost use Prim.Native.Nat.{_+_, _*_, _≤_};
+ghost use lib.ListN.{length, take, drop, replicate};
+ghost use Rattle.field.specs.Field.{p};
+ghost use Rattle.memory.specs.Rows.{sized, allowed};
+ghost use Rattle.memory.specs.Honest.{bare, filledRows};
+ghost use Rattle.memory.specs.Filler.{inputsIn, memoryCoded, fillRows, fillOf};
+ghost use Rattle.filler.specs.Answer.{fillingOf, knownOf, Roomy};
+ghost use Rattle.filler.specs.Words.{laid, valuesIn};
+ghost use Rattle.filler.specs.Scan.{initsScanned};
+ghost use Rattle.filler.specs.Write.{Fillable};
+
+// What a fill comes to: how many rows it wrote, or the number and the place of its refusal.
+pub enum Filled {
+    Rows(usize),
+    Refused(u32, usize),
+}
+
+// The memory that a number stands for.
+enum Known {
+    Is(Memory),
+    Unknown,
+}
+
+// "Size n is 0 to 65,536 … Count T is 0 to 65,536."
+const LIMIT: u32 = 65536;
+
+fn memory_of(code: u32) -> Known
+    ensures { λ r. ⌜ knownOf r ≡ memoryCoded code ⌝ }
+{
+    match code {
+        0 => Known::Is(Memory::Ram),
+        1 => Known::Is(Memory::Rom),
+        2 => Known::Is(Memory::Set),
+        3 => Known::Is(Memory::Stack),
+        4 => Known::Is(Memory::Queue),
+        _ => Known::Unknown,
+    }
+}
+
+fn sized(m: Memory, size: u32) -> bool
+    ensures { λ r. ⌜ r ≡ sized m size ⌝ }
+{
+    match m {
+        Memory::Ram => size <= LIMIT,
+        Memory::Rom => size <= LIMIT,
+        Memory::Set => size <= LIMIT,
+        Memory::Stack => size == 0,
+        Memory::Queue => size == 0,
+    }
+}
+
+// Copies the init rows.
+fn copy_inits(n: usize, inits: &[u32], out: &mut [u32])
+    requires { ⌜ (4 * n ≡ length (now inits)) × (7 * n ≤ length (now out)) ⌝ }
+    requires { ⌜ initsScanned p 1 (inputsIn (now inits)) .number ≡ 0 ⌝ }
+    ensures { λ _. ⌜ now (out .exit) ≡ laid (now (out .entry)) 0 (map bare (inputsIn (now (inits .entry)))) ⌝ }
+{
+    let mut k = 0;
+    while k < n {
+        rows::copy(k, inits, 0, 0, 0, out);
+        k += 1;
+    }
+}
+
+// Writes all rows, where none has a fault; how many they are. The part of the output after the init rows is handed on.
+fn write_rows(
+    m: Memory,
+    n: usize,
+    t: usize,
+    inits: &[u32],
+    ops: &[u32],
+    out: &mut [u32],
+    scratch: &mut [u32],
+) -> usize
+    requires { ⌜ initsScanned p 1 (inputsIn (now inits)) .number ≡ 0 ⌝ }
+    requires { ⌜ 7 * n ≤ length (now out) ⌝ }
+    requires { ⌜ Fillable m n t (now inits) (now ops) (drop (7 * n) (now out)) (now scratch) ⌝ }
+    ensures rows { λ _. ⌜ now (out .exit) ≡ laid (now (out .entry)) 0 (filledRows m t (inputsIn (now (inits .entry))) (inputsIn (now (ops .entry)))) ⌝ }
+    ensures blank { λ _. ⌜ now (scratch .exit) ≡ replicate (length (now (scratch .entry))) 0 ⌝ }
+    ensures count { λ r. ⌜ r ≡ length (filledRows m t (inputsIn (now (inits .entry))) (inputsIn (now (ops .entry)))) ⌝ }
+{
+    rows::clear(scratch);
+    copy_inits(n, inits, out);
+    let from = 7 * n;
+    let more = write::rows_after(m, n, t, inits, ops, &mut out[from..], scratch);
+    rows::clear(scratch);
+    n + more
+}
+
+// The filler on rows that are as many as they should be, with room.
+fn fill_rows(
+    m: Memory,
+    n: usize,
+    t: usize,
+    rows: &[u32],
+    out: &mut [u32],
+    scratch: &mut [u32],
+) -> Filled
+    requires { ⌜ Roomy m n t (now rows) (now out) (now scratch) ⌝ }
+    ensures { λ r. ⌜ fillingOf r (now (out .exit)) (now (scratch .exit)) ≡ fillRows p m t (take n (inputsIn (now (rows .entry)))) (drop n (inputsIn (now (rows .entry)))) (now (out .entry)) (now (scratch .entry)) ⌝ }
+{
+    let from = 4 * n;
+    let inits = &rows[..from];
+    let ops = &rows[from..];
+    let fault = faults::scan(m, n, t, inits, ops);
+    if fault.number != 0 {
+        rows::clear(out);
+        rows::clear(scratch);
+        return Filled::Refused(fault.number, fault.place);
+    }
+    Filled::Rows(write_rows(m, n, t, inits, ops, out, scratch))
+}
+
+// "The filler's library tests 4, 7 (rows not size + count), 14, 15, place 0, buffers as found; then each row."
+pub fn fill(
+    memory: u32,
+    size: u32,
+    count: u32,
+    rows: &[u32],
+    out: &mut [u32],
+    scratch: &mut [u32],
+) -> Filled
+    ensures { λ r. ⌜ fillingOf r (now (out .exit)) (now (scratch .exit)) ≡ fillOf p memory size count (now (rows .entry)) (now (out .entry)) (now (scratch .entry)) ⌝ }
+{
+    let Known::Is(m) = memory_of(memory) else {
+        return Filled::Refused(4, 0);
+    };
+    if !sized(m, size) {
+        return Filled::Refused(4, 0);
+    }
+    if LIMIT < count {
+        return Filled::Refused(4, 0);
+    }
+    let n = size as usize;
+    let t = count as usize;
+    if rows.len() != 4 * (n + t) {
+        return Filled::Refused(7, 0);
+    }
+    let room = 2 * n + 3 * t;
+    if out.len() < 7 * room {
+        return Filled::Refused(14, 0);
+    }
+    if scratch.len() < room {
+        return Filled::Refused(15, 0);
+    }
+    fill_rows(m, n, t, rows, out, scratch)
+}
