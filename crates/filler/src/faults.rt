@@ -38,7 +38,7 @@ const ENQUEUE: u32 = 6;
 const DEQUEUE: u32 = 7;
 
 // 3: whether the numbers of a row are below p.
-fn below(guard: u32, addr: u32, value: u32) -> bool
+pub fn below(guard: u32, addr: u32, value: u32) -> bool
     ensures { λ r. ⌜ r ≡ allBelow p (guard ∷ addr ∷ value ∷ []) ⌝ }
 {
     if guard >= Field::MODULUS {
@@ -51,7 +51,7 @@ fn below(guard: u32, addr: u32, value: u32) -> bool
 }
 
 // 5 and 6 of a row with one op due.
-fn single(due: bool, formed: bool) -> u32
+pub fn single(due: bool, formed: bool) -> u32
     ensures { λ r. ⌜ r ≡ single due formed ⌝ }
 {
     if due { if formed { 0 } else { 6 } } else { 5 }
@@ -69,7 +69,7 @@ fn paired(first: bool, second: bool, guard: u32, addr: u32, value: u32) -> u32
 }
 
 // 5 and 6 of an operation.
-fn form(m: Memory, op: u32, guard: u32, addr: u32, value: u32) -> u32
+pub fn form(m: Memory, op: u32, guard: u32, addr: u32, value: u32) -> u32
     ensures { λ r. ⌜ r ≡ form m op guard addr value ⌝ }
 {
     match m {
@@ -201,7 +201,7 @@ fn operation_fault(m: Memory, n: usize, level: usize, k: usize, inits: &[u32], o
 }
 
 // The first fault of the init rows.
-pub fn scan_inits(n: usize, inits: &[u32]) -> Fault
+pub(crate) fn scan_inits(n: usize, inits: &[u32]) -> Fault
     requires { ⌜ (4 * n ≡ length (now inits)) × (n ≤ few) ⌝ }
     ensures { λ r. ⌜ (r .number ≡ initsScanned p 1 (inputsIn (now (inits .entry))) .number) × (r .place ≡ initsScanned p 1 (inputsIn (now (inits .entry))) .place) ⌝ }
 {
@@ -223,7 +223,7 @@ pub fn scan_inits(n: usize, inits: &[u32]) -> Fault
 }
 
 // The first fault of the operations.
-pub fn scan_operations(m: Memory, n: usize, t: usize, inits: &[u32], ops: &[u32]) -> Fault
+pub(crate) fn scan_operations(m: Memory, n: usize, t: usize, inits: &[u32], ops: &[u32]) -> Fault
     requires { ⌜ (4 * n ≡ length (now inits)) × (4 * t ≡ length (now ops)) × (n ≤ few) × (t ≤ few) ⌝ }
     ensures { λ r. ⌜ (r .number ≡ scanned p m (valuesIn (now (inits .entry))) n (n + 1) (inputsIn (now (ops .entry))) .number) × (r .place ≡ scanned p m (valuesIn (now (inits .entry))) n (n + 1) (inputsIn (now (ops .entry))) .place) ⌝ }
 {
@@ -247,7 +247,7 @@ pub fn scan_operations(m: Memory, n: usize, t: usize, inits: &[u32], ops: &[u32]
 }
 
 // The first fault of all rows.
-pub fn scan(m: Memory, n: usize, t: usize, inits: &[u32], ops: &[u32]) -> Fault
+pub(crate) fn scan(m: Memory, n: usize, t: usize, inits: &[u32], ops: &[u32]) -> Fault
     requires { ⌜ (4 * n ≡ length (now inits)) × (4 * t ≡ length (now ops)) × (n ≤ few) × (t ≤ few) ⌝ }
     requires { ⌜ sized m n ≡ true ⌝ }
     ensures number { λ r. ⌜ r .number ≡ rowsFault p m (valuesIn (now (inits .entry))) 1 (inputsIn (now (inits .entry))) (inputsIn (now (ops .entry))) .number ⌝ }

@@ -2,7 +2,7 @@
 use memory::Memory;
 
 mod ends;
-mod faults;
+pub mod faults;
 mod rows;
 mod steps;
 mod write;

@@ -242,7 +242,7 @@ read-fields (suc k) text at inside =
     (eq-or-lt-of-le inside)
 
 -- the text after the first field has the other fields, after an empty one
-fields-past-first : (bs : List ℕ) → fields (drop (length (first bs)) bs) ≡ [] ∷ drop 1 (fields bs)
+pub fields-past-first : (bs : List ℕ) → fields (drop (length (first bs)) bs) ≡ [] ∷ drop 1 (fields bs)
 unfolding first fields onto
 fields-past-first [] = refl
 fields-past-first (b ∷ bs) = by (eqb b comma) refl (fields-past-first bs)
@@ -281,17 +281,17 @@ unfoldable pub prepends : List ℕ → Option (List ℕ) → Option (List ℕ)
 prepends [] rest = rest
 prepends (v ∷ vs) rest = prepend v (prepends vs rest)
 
-prepends-more : (vs : List ℕ) (v : ℕ) (rest : Option (List ℕ)) → prepends vs (prepend v rest) ≡ prepends (vs ++ v ∷ []) rest
+pub prepends-more : (vs : List ℕ) (v : ℕ) (rest : Option (List ℕ)) → prepends vs (prepend v rest) ≡ prepends (vs ++ v ∷ []) rest
 unfolding prepends
 prepends-more [] v rest = refl
 prepends-more (w ∷ vs) v rest = ap (prepend w) (prepends-more vs v rest)
 
-prepends-none : (vs : List ℕ) → prepends vs none ≡ none
+pub prepends-none : (vs : List ℕ) → prepends vs none ≡ none
 unfolding prepends prepend
 prepends-none [] = refl
 prepends-none (v ∷ vs) = rw (prepends-none vs)
 
-prepends-some : (vs ws : List ℕ) → prepends vs (some ws) ≡ some (vs ++ ws)
+pub prepends-some : (vs ws : List ℕ) → prepends vs (some ws) ≡ some (vs ++ ws)
 unfolding prepends prepend
 prepends-some [] ws = refl
 prepends-some (v ∷ vs) ws = rw (prepends-some vs ws)

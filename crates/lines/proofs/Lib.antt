@@ -5,3 +5,5 @@ pub mod Fields
 pub mod Keys
 pub mod Parse
 pub mod Same
+pub mod Short
+pub mod Limits

@@ -31,7 +31,7 @@ use Rattle.lines.proofs.Fields.{fields-first}
 use Rattle.lines.proofs.Keys.{Bytes, and-both, op-keyed, memory-keyed}
 
 -- the first field of a text of bytes is a text of bytes
-first-bytes : (bs : List ℕ) → Bytes bs → Bytes (first bs)
+pub first-bytes : (bs : List ℕ) → Bytes bs → Bytes (first bs)
 unfolding first
 first-bytes [] are = are
 first-bytes (b ∷ bs) are = by (eqb b comma) (first-bytes bs (λ i. are (suc i)))
@@ -42,7 +42,7 @@ first-bytes (b ∷ bs) are = by (eqb b comma) (first-bytes bs (λ i. are (suc i)
     by false rest (suc i) = rest i
 
 -- six numbers are six
-length-numbers : (fs : List (List ℕ)) → length (numbers fs) ≡ length fs
+pub length-numbers : (fs : List (List ℕ)) → length (numbers fs) ≡ length fs
 unfolding numbers
 length-numbers [] = refl
 length-numbers (f ∷ fs) = ap suc (length-numbers fs)
@@ -203,7 +203,7 @@ pub record SixFit (v : Values) : Type 0 where
   pub fifth : Fits w32 (v .fifth)
   pub sixth : Fits w32 (v .sixth)
 
-fits-below : (x : ℕ) → ltb x p ≡ true → Fits w32 x
+pub fits-below : (x : ℕ) → ltb x p ≡ true → Fits w32 x
 unfolding p
 fits-below x e = omega (arith, ltb-true x 2147483647 e)
 

@@ -1,3 +1,4 @@
 pub mod Keys
 pub mod Walk
+pub mod Short
 pub mod Answers

@@ -11,6 +11,9 @@ ghost use Rattle.memory.specs.File.{parseValues, namesFault};
 ghost use Rattle.lines.specs.Keys.{opKeyed, memoryKeyed, knownOf};
 ghost use Rattle.lines.specs.Walk.{most, run, digitsOf, numberFrom, first, nameOf, splitOf, six, narrowed};
 ghost use Rattle.lines.specs.Answers.{openingOf};
+
+pub mod filling;
+
 use field::Field;
 use memory::Challenge;
 use memory::Memory;

@@ -35,7 +35,7 @@ numbers-length x (y ∷ ys) h =
     omega (arith, length-append (numberText x) (comma ∷ numbersText y ys), digits .1, numbers-length y ys (parts .1))
 
 -- the names of the ops
-name-length : (o : Op) → length (opName o) ≤ 7
+pub name-length : (o : Op) → length (opName o) ≤ 7
 unfolding opName bytes
 name-length Init = omega arith
 name-length Access = omega arith

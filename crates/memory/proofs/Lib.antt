@@ -44,3 +44,7 @@ pub mod HonestFile
 pub mod FilledFile
 pub mod Factors
 pub mod Promises
+pub mod Pieces
+pub mod FillStream
+pub mod FillTested
+pub mod FillLength

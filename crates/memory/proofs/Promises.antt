@@ -9,6 +9,9 @@ use Rattle.memory.proofs.HonestRows.{honest-rows, refused-not-right}
 use Rattle.memory.proofs.Stream.{stream-cut, stream-is-file}
 use Rattle.memory.proofs.HonestFile.{honest-file-accepted, honest-run-accepted}
 use Rattle.memory.proofs.FilledFile.{filling-accepted}
+use Rattle.memory.proofs.FillStream.{fill-stream-cut, fill-stream-is-text}
+use Rattle.memory.proofs.FillTested.{tested-rows-late}
+use Rattle.memory.proofs.FillLength.{fill-text-short}
 use Rattle.memory.proofs.Cases.{cases-hold, ram-products}
 
 pub promises : Promises
@@ -29,6 +32,10 @@ promises = record {
   honestFile = honest-file-accepted;
   honestRun = honest-run-accepted;
   filling = filling-accepted;
+  fillCut = fill-stream-cut;
+  fillText = fill-stream-is-text;
+  tested = tested-rows-late;
+  short = fill-text-short;
   cases = cases-hold;
   products = ram-products;
 }

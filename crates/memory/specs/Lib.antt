@@ -9,6 +9,8 @@ pub mod Honest
 pub mod File
 pub mod Step
 pub mod Filler
+pub mod Pieces
+pub mod FillStream
 pub mod Bound
 pub mod Statements
 pub mod Print

@@ -1,6 +1,6 @@
 -- Every statement of this crate, as the fields of one record: a proof of it is a proof of each. (Promises: promises)
 -- Assumes nothing.
-use Rattle.memory.specs.Statements.{FoldIsFile, FixedState, EndedState, AcceptsExactlyWhen, GatesByFormula, FactorsCounted, HashesCounted, DemandAt, DemandThree, HonestRows, RefusedNotRight, StreamCut, StreamIsFile, HonestFileAccepted, HonestRunAccepted, FillingAccepted}
+use Rattle.memory.specs.Statements.{FoldIsFile, FixedState, EndedState, AcceptsExactlyWhen, GatesByFormula, FactorsCounted, HashesCounted, DemandAt, DemandThree, HonestRows, RefusedNotRight, StreamCut, StreamIsFile, HonestFileAccepted, HonestRunAccepted, FillingAccepted, FillStreamCut, FillStreamIsText, TestedRowsLate, FillTextShort}
 use Rattle.memory.specs.Cases.{CasesHold, RamProducts}
 
 pub record Promises : Type 0 where
@@ -20,5 +20,9 @@ pub record Promises : Type 0 where
   pub honestFile : HonestFileAccepted
   pub honestRun : HonestRunAccepted
   pub filling : FillingAccepted
+  pub fillCut : FillStreamCut
+  pub fillText : FillStreamIsText
+  pub tested : TestedRowsLate
+  pub short : FillTextShort
   pub cases : CasesHold
   pub products : RamProducts

@@ -26,7 +26,9 @@ use Rattle.memory.specs.Honest.{Input, inputOf, filledRows}
 use Rattle.memory.specs.Step.{takesRows, stepOf, rowOf, endOf, runOf, freshOf, reportOf}
 use Rattle.memory.specs.Filler.{rowsFault}
 use Rattle.memory.specs.Print.{rowsText, refusalText, filledText, headerText}
-use Rattle.memory.specs.FillFile.{job, parseJob, parseInput, inputsOfLines, fillText}
+use Rattle.memory.specs.FillFile.{job, parseJob, parseInput, inputsOfLines, fillLimit, inputsFault, fillText}
+use Rattle.memory.specs.Pieces.{Piece, bytesIn}
+use Rattle.memory.specs.FillStream.{Gathered, lineTaken, unfilled, fillEnd, late}
 use Rattle.memory.specs.Stream.{Reading, unread, bytesOf, finishOf}
 use Rattle.memory.specs.Bound.{accepts, challenges, malformed, degree, rowsIn, traceIn, Advised}
 
@@ -194,3 +196,25 @@ pub record FillAccepted (bytes : List ℕ) : Type 0 where
 -- (FilledFile: filling-accepted)
 abbrev pub FillingAccepted : Type 0
 FillingAccepted = (bytes : List ℕ) → FillRefused bytes ⊎ FillAccepted bytes
+
+-- The filling program's input read in pieces, cut anywhere, gives what reading it whole gives. (FillStream: fill-stream-cut)
+abbrev pub FillStreamCut : Type 0
+FillStreamCut =
+    (q : ℕ) (v : Piece Gathered) (xs ys : List ℕ) → bytesIn (lineTaken q) v (xs ++ ys) ≡ bytesIn (lineTaken q) (bytesIn (lineTaken q) v xs) ys
+
+-- The filling program's input read byte by byte, up to its end, with words for as many rows as may be due, gives what the program prints. (FillStream: fill-stream-is-text)
+abbrev pub FillStreamIsText : Type 0
+FillStreamIsText =
+    (q : ℕ) (bytes words : List ℕ) → 4 * (fillLimit + fillLimit) ≤ length words
+    → fillEnd q (bytesIn (lineTaken q) (unfilled words) bytes) ≡ fillText q bytes
+
+-- "1 to 7 by line, then 11 to 13": rows that meet none of 1 to 7 meet none of 3, 5 and 6 in the filler's library. (FillTested: tested-rows-late)
+abbrev pub TestedRowsLate : Type 0
+TestedRowsLate =
+    (q : ℕ) (m : Memory) (n t : ℕ) (lines : List Line) → inputsFault q m n t 0 (map (parseInput q) lines) .number ≡ 0
+    → let rows = inputsOfLines (map (parseInput q) lines) in
+    late (rowsFault q m (map (λ i. i .value) (take n rows)) 1 (take n rows) (drop n rows) .number) ≡ true
+
+-- What the filling program prints has at most 85,797 bytes: a names line of 37, and 134 for each of 640 rows. (FillLength: fill-text-short)
+abbrev pub FillTextShort : Type 0
+FillTextShort = (q : ℕ) (bytes : List ℕ) → length (fillText q bytes) ≤ 85797

@@ -1,0 +1,99 @@
+-- The end of input: what is printed of the library's answer, and what is printed and left of the lent slices after the last line.
+-- Assumes nothing.
+use Prim.Native.Nat.{ℕ, _*_, min}
+use native.Mathlib.Omega.{arith}
+use mathlib.Core.Path.{_≡_, refl, sym, _∙_, ap}
+use mathlib.Core.List.{List}
+use lib.ListN.{length, take}
+use borrow.Author.Tests.{eq-eqb, ne-eqb}
+use Rattle.field.specs.Field.{p}
+use Rattle.memory.specs.declared.Intake.{Intake}
+use Rattle.memory.specs.Step.{raise}
+use Rattle.memory.specs.Filler.{memoryCode, fillOf}
+use Rattle.memory.specs.Print.{filledText, refusalText}
+use Rattle.memory.specs.Pieces.{piece, lastIn, endIn}
+use Rattle.memory.specs.FillStream.{Gathered, gathered, rowsDue, lineTaken, endTaken, dueWords}
+use Rattle.memory.proofs.FillStream.{end-values}
+use Rattle.filler.specs.declared.Filled.{Filled}
+use Rattle.filler.specs.declared.Filled.the-variants.{Rows, Refused}
+use Rattle.filler.specs.Answer.{answerOf, placeOf, countOf, fillingOf}
+use Rattle.print.specs.declared.Put.{Put}
+use Rattle.print.proofs.Written.{put-text}
+use Rattle.fillfile.specs.declared.Progress.{Progress}
+use Rattle.fillfile.specs.Progress.{progressOf}
+use Rattle.fillfile.specs.Ending.{outputRows, filledOr, answerText, Ending, endedBy, refusedWith, endingOf, Ended, endOf, Finished}
+use Rattle.fillfile.proofs.Parts.{take-within}
+use Rattle.fillfile.proofs.Texts.{Putting}
+
+-- the library's answer: rows, a refusal that is none, and a refusal
+module _ (out : List ℕ) {filled : Filled} where
+  pub rows-answer : {n : ℕ} → filled ≡ Rows n → filledText (outputRows n out) ≡ answerText filled out
+  unfolding answerText filledOr answerOf placeOf countOf
+  rows-answer e = rw e refl
+
+  pub none-answer : {f k : ℕ} → filled ≡ Refused f k → f ≡ 0 → filledText (outputRows 0 out) ≡ answerText filled out
+  unfolding answerText filledOr answerOf placeOf countOf
+  none-answer {f} {k} e zero = rw (e, zero) refl
+
+  pub refused-answer : {f k : ℕ} → filled ≡ Refused f k → (f ≡ 0 → ⊥) → refusalText f (raise k 3) ≡ answerText filled out
+  unfolding answerText filledOr answerOf placeOf countOf
+  refused-answer {f} {k} e some = rw (e, ne-eqb f 0 some) refl
+
+-- where the lines end, size and count are those of the value line
+pub end-due : (i : Intake) → rowsDue (endTaken i) ≡ rowsDue i
+unfolding rowsDue
+end-due i = let same = end-values i in omega (arith, same .1, same .2)
+
+-- an ending, by what is printed and left
+ended-as : (g : Gathered) (out filled scratch cleared text printed : List ℕ) (r : Put) (e : Ending) → endingOf g out scratch ≡ e → filled ≡ e .output → cleared ≡ e .scratch
+    → Putting text 0 (e .text) r printed → Ended g out filled scratch cleared text printed r
+ended-as g out filled scratch cleared text printed r e is output left put =
+    let same = put-text text 0 (ap (λ (x : Ending). x .text) (sym is)) put in
+    record {
+      output = output ∙ ap (λ (x : Ending). x .output) (sym is);
+      scratch-words = left ∙ ap (λ (x : Ending). x .scratch) (sym is);
+      answer = same .0;
+      bytes = same .1;
+    }
+
+module _ (i : Intake) (ws out scratch text : List ℕ) {x : Intake} (end : x ≡ endTaken i) {r : Put} {printed : List ℕ} where
+  -- a fault
+  pub ended-refused : (x .answer ≡ 0 → ⊥) → Putting text 0 (refusalText (x .answer) (x .line)) r printed
+      → Ended (gathered i ws) out out scratch scratch text printed r
+  unfolding endingOf gathered refusedWith
+  ended-refused some put =
+      ended-as (gathered i ws) out out scratch scratch text printed r (refusedWith (x .answer) (x .line) out scratch)
+      (rw (sym end, ne-eqb (x .answer) 0 some) refl)
+      refl
+      refl
+      put
+
+  -- what the library makes of the rows
+  pub ended-filled : (x .answer ≡ 0) → (due count code : ℕ) → due ≡ rowsDue x → count ≡ min (4 * due) (length ws) → code ≡ memoryCode (x .memory)
+      → (filled : Filled) (output cleared : List ℕ) → fillingOf filled output cleared ≡ fillOf p code (x .size) (x .count) (take count ws) out scratch
+      → Putting text 0 (answerText filled output) r printed → Ended (gathered i ws) out output scratch cleared text printed r
+  unfolding endingOf gathered dueWords endedBy fillingOf answerText
+  ended-filled none due count code dues counts codes filled output cleared fills put =
+      let rows : take count ws ≡ take (4 * rowsDue i) ws =
+      ap (λ (n : ℕ). take n ws) counts ∙ take-within (4 * due) ws ∙ ap (λ (n : ℕ). take (4 * n) ws) (dues ∙ ap rowsDue end ∙ end-due i) in
+      let fill : fillOf p (memoryCode (x .memory)) (x .size) (x .count) (take (4 * rowsDue i) ws) out scratch ≡ fillingOf filled output cleared =
+      sym (fills ∙ rw (codes, rows) refl) in
+      ended-as (gathered i ws) out output scratch cleared text printed r (endedBy (fillingOf filled output cleared))
+      (rw (sym end, eq-eqb (x .answer) 0 none) (ap endedBy fill))
+      refl
+      refl
+      put
+
+-- the end of input, with the kept bytes at the front of the buffer
+pub finished : (was : Progress) (buffer words : List ℕ) (count : ℕ) → count ≡ min (was .kept) (length buffer) → (i : Intake) (stored : List ℕ)
+    → gathered i stored ≡ lastIn (lineTaken p) (gathered (was .intake) words) (take count buffer) → (out filled scratch cleared text printed : List ℕ) (r : Put)
+    → Ended (gathered i stored) out filled scratch cleared text printed r → Finished was buffer words stored out filled scratch cleared text printed r
+unfolding endOf endIn progressOf piece gathered
+finished was buffer words count counts i stored last out filled scratch cleared text printed r ended =
+    let front : take count buffer ≡ take (was .kept) buffer = ap (λ (n : ℕ). take n buffer) counts ∙ take-within (was .kept) buffer in
+    let whole : gathered i stored ≡ endOf was words buffer =
+    last ∙ ap (lastIn (lineTaken p) (gathered (was .intake) words)) front in
+    record {
+      rows = ap (λ (g : Gathered). g .words) whole;
+      ended = rw whole at ended;
+    }

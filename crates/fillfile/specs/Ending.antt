@@ -1,0 +1,69 @@
+-- What is printed where the input ends, by what the filler's library leaves in the lent slices.
+-- Assumes nothing.
+use Prim.Native.Nat.{ℕ, zero, suc}
+use mathlib.Core.Path.{_≡_}
+use mathlib.Core.Bool.{cond}
+use mathlib.Core.List.{List, [], _∷_, _++_}
+use lib.Dec.{eqb}
+use lib.ListN.{length}
+use Rattle.field.specs.Field.{p}
+use Rattle.memory.specs.declared.Row.{Row}
+use Rattle.memory.specs.Step.{raise}
+use Rattle.memory.specs.Filler.{memoryCode, Filling, fillOf}
+use Rattle.memory.specs.Print.{filledText, refusalText}
+use Rattle.memory.specs.Pieces.{endIn}
+use Rattle.memory.specs.FillStream.{Gathered, lineTaken, endTaken, dueWords}
+use Rattle.filler.specs.declared.Filled.{Filled}
+use Rattle.filler.specs.Answer.{answerOf, placeOf, countOf}
+use Rattle.print.specs.declared.Put.{Put}
+use Rattle.print.specs.Put.{putOf, written, rowIn}
+use Rattle.fillfile.specs.declared.Progress.{Progress}
+use Rattle.fillfile.specs.Progress.{progressOf}
+
+-- the first rows of a slice of output rows
+unfoldable pub outputRows : ℕ → List ℕ → List Row
+outputRows zero ws = []
+outputRows (suc k) ws = outputRows k ws ++ rowIn ws k ∷ []
+
+-- the rows that were written, or the refusal; "row k being line k + 3"
+unfoldable pub filledOr : ℕ → ℕ → ℕ → List ℕ → List ℕ
+filledOr answer place count output = cond (eqb answer 0) (filledText (outputRows count output)) (refusalText answer (raise place 3))
+
+-- what is printed of the library's answer
+unfoldable pub answerText : Filled → List ℕ → List ℕ
+answerText r output = filledOr (answerOf r) (placeOf r) (countOf r) output
+
+-- What is printed where the input ends, and the lent slices afterwards
+pub record Ending : Type 0 where
+  pub text : List ℕ
+  pub output : List ℕ
+  pub scratch : List ℕ
+
+unfoldable pub endedBy : Filling → Ending
+endedBy f = record { text = filledOr (f .answer) (f .place) (f .count) (f .output); output = f .output; scratch = f .scratch }
+
+unfoldable pub refusedWith : ℕ → ℕ → List ℕ → List ℕ → Ending
+refusedWith f l out scratch = record { text = refusalText f l; output = out; scratch = scratch }
+
+-- the fault, or what the filler's library makes of the rows
+unfoldable pub endingOf : Gathered → List ℕ → List ℕ → Ending
+endingOf g out scratch =
+    let i = endTaken (g .intake) in
+    cond (eqb (i .answer) 0) (endedBy (fillOf p (memoryCode (i .memory)) (i .size) (i .count) (dueWords g) out scratch))
+    (refusedWith (i .answer) (i .line) out scratch)
+
+-- after the last line: what is printed, and the lent slices
+pub record Ended (g : Gathered) (out filled scratch cleared text printed : List ℕ) (r : Put) : Type 0 where
+  pub output : filled ≡ endingOf g out scratch .output
+  pub scratch-words : cleared ≡ endingOf g out scratch .scratch
+  pub answer : r ≡ putOf (length text) 0 (endingOf g out scratch .text)
+  pub bytes : printed ≡ written text 0 (endingOf g out scratch .text)
+
+-- what the lines leave where the input ends, with the kept bytes at the front of a buffer
+unfoldable pub endOf : Progress → List ℕ → List ℕ → Gathered
+endOf was words buffer = endIn (lineTaken p) (progressOf was words buffer)
+
+-- The end of input: what is printed, and the lent slices
+pub record Finished (was : Progress) (buffer words stored out filled scratch cleared text printed : List ℕ) (r : Put) : Type 0 where
+  pub rows : stored ≡ endOf was words buffer .words
+  pub ended : Ended (endOf was words buffer) out filled scratch cleared text printed r

@@ -1,0 +1,136 @@
+// The end of input: the last line where it is not ended, what the filler's library makes of the rows, and what is printed.
+use super::line;
+use filler::Filled;
+use memory::Intake;
+use memory::Memory;
+use print::Put;
+ghost use mathlib.Core.Path.{_≡_};
+ghost use lib.ListN.{length};
+ghost use Rattle.field.specs.Field.{p};
+ghost use Rattle.memory.specs.Step.{raise};
+ghost use Rattle.memory.specs.Filler.{memoryCode};
+ghost use Rattle.memory.specs.Print.{filledText};
+ghost use Rattle.memory.specs.Pieces.{lastIn};
+ghost use Rattle.memory.specs.FillStream.{gathered, lineTaken, endTaken};
+ghost use Rattle.filler.specs.Answer.{fillingOf};
+ghost use Rattle.print.specs.Put.{putOf, written};
+ghost use Rattle.fillfile.specs.Ending.{outputRows, answerText, Ended};
+
+// The number of a memory.
+fn code(memory: Memory) -> u32
+    ensures { λ r. ⌜ r ≡ memoryCode memory ⌝ }
+{
+    match memory {
+        Memory::Ram => 0,
+        Memory::Rom => 1,
+        Memory::Set => 2,
+        Memory::Stack => 3,
+        Memory::Queue => 4,
+    }
+}
+
+// Where the lines end: 1 for an empty input, 7 for a missing line 2 or 3 and for a missing row.
+fn ended(intake: Intake) -> Intake
+    ensures { λ r. ⌜ r ≡ endTaken intake ⌝ }
+{
+    if intake.answer != 0 {
+        return intake;
+    }
+    let place = intake.place;
+    match place {
+        1 => line::refuse(intake, 1, 1),
+        2 => line::refuse(intake, 7, 2),
+        3 => line::refuse(intake, 7, 3),
+        _ => {
+            if (intake.passed as usize) < line::due(intake) {
+                line::refuse_row(intake, 7)
+            } else {
+                intake
+            }
+        }
+    }
+}
+
+// The last line: one without its line feed is a line all the same.
+pub fn last(intake: Intake, rest: &[u8], words: &mut [u32]) -> Intake
+    ensures { λ r. ⌜ gathered r (now (words .exit)) ≡ lastIn (lineTaken p) (gathered intake (now (words .entry))) (now (rest .entry)) ⌝ }
+{
+    if rest.len() == 0 {
+        return intake;
+    }
+    line::line(intake, rest, false, words)
+}
+
+// "row k being line k + 3"
+fn line_of(place: usize) -> u32
+    ensures { λ r. ⌜ r ≡ raise place 3 ⌝ }
+{
+    if place < (u32::MAX - 3) as usize {
+        place as u32 + 3
+    } else {
+        u32::MAX
+    }
+}
+
+// Puts the names line and the rows of the output.
+fn rows(text: &mut [u8], out: &[u32], count: usize) -> Put
+    ensures answer { λ r. ⌜ r ≡ putOf (length (now (text .entry))) 0 (filledText (outputRows count (now (out .entry)))) ⌝ }
+    ensures slice { λ _. ⌜ now (text .exit) ≡ written (now (text .entry)) 0 (filledText (outputRows count (now (out .entry)))) ⌝ }
+{
+    let Put::At(at) = print::row_names(text, 0) else {
+        return Put::Full;
+    };
+    let mut at = at;
+    let mut k = 0;
+    while k < count {
+        let Put::At(next) = print::filled_row(text, at, out, k) else {
+            return Put::Full;
+        };
+        at = next;
+        k += 1;
+    }
+    Put::At(at)
+}
+
+// Puts what the filler's library came to: the rows, or its refusal. An answer of 0 is no refusal.
+fn answer(text: &mut [u8], out: &[u32], filled: Filled) -> Put
+    ensures answer { λ r. ⌜ r ≡ putOf (length (now (text .entry))) 0 (answerText filled (now (out .entry))) ⌝ }
+    ensures slice { λ _. ⌜ now (text .exit) ≡ written (now (text .entry)) 0 (answerText filled (now (out .entry))) ⌝ }
+{
+    match filled {
+        Filled::Rows(count) => rows(text, out, count),
+        Filled::Refused(number, place) => {
+            if number == 0 {
+                return rows(text, out, 0);
+            }
+            print::refusal(text, 0, number, line_of(place))
+        }
+    }
+}
+
+// What is printed after the last line: the fault, or what the filler's library makes of the rows.
+pub fn finish(
+    intake: Intake,
+    words: &[u32],
+    out: &mut [u32],
+    scratch: &mut [u32],
+    text: &mut [u8],
+) -> Put
+    ensures { λ r. ⌜ Ended (gathered intake (now (words .entry))) (now (out .entry)) (now (out .exit)) (now (scratch .entry)) (now (scratch .exit)) (now (text .entry)) (now (text .exit)) r ⌝ }
+{
+    let intake = ended(intake);
+    if intake.answer != 0 {
+        return print::refusal(text, 0, intake.answer, intake.line);
+    }
+    let end = super::smaller(4 * line::due(intake), words.len());
+    let memory = intake.memory;
+    let filled = filler::fill(
+        code(memory),
+        intake.size,
+        intake.count,
+        &words[..end],
+        out,
+        scratch,
+    );
+    answer(text, &out[..], filled)
+}

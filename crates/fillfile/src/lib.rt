@@ -1,0 +1,105 @@
+// The filling program's library: from the bytes of its input, read in pieces, to the bytes that it prints. Section "The filler" of document 01.
+// A caller keeps one buffer for the input and one for the words of the rows: `start`, then for each block `advance`, and `finish` at the end of input.
+use memory::Intake;
+use print::Put;
+
+mod block;
+mod ending;
+mod line;
+
+ghost use mathlib.Core.Path.{_≡_};
+ghost use Prim.Native.Nat.{min};
+ghost use lib.ListN.{length};
+ghost use Rattle.field.specs.Field.{p};
+ghost use Rattle.memory.specs.FillFile.{fillText};
+ghost use Rattle.print.specs.Put.{putOf, written};
+ghost use Rattle.fillfile.specs.Progress.{begun, Advanced};
+ghost use Rattle.fillfile.specs.Ending.{Finished};
+
+// "The filling program takes size and count up to 128": the words that it lends for the rows, the output and the scratch, and the most bytes that it prints.
+pub const WORDS: usize = 1024;
+
+pub const OUTPUT: usize = 4480;
+
+pub const SCRATCH: usize = 640;
+
+pub const TEXT: usize = 85797;
+
+// As many bytes of an unfinished line are kept as show that it is too long.
+const KEPT: usize = 81;
+
+// Between two pieces of the input: what its lines left, and how many bytes of the line that is being read stand at the front of the caller's buffer. The caller
+// puts the bytes that follow behind them.
+pub struct Progress {
+    pub intake: Intake,
+    pub kept: usize,
+}
+
+fn smaller(a: usize, b: usize) -> usize
+    ensures { λ r. ⌜ r ≡ min a b ⌝ }
+{
+    if a < b { a } else { b }
+}
+
+// Before the first byte.
+pub fn start() -> Progress
+    ensures { λ r. ⌜ r ≡ begun ⌝ }
+{
+    Progress {
+        intake: Intake {
+            place: 1,
+            memory: memory::Memory::Ram,
+            size: 0,
+            count: 0,
+            passed: 0,
+            answer: 0,
+            line: 0,
+        },
+        kept: 0,
+    }
+}
+
+// The filled part of the buffer, which begins with the kept bytes: its whole lines are read, and the unfinished line after them is moved to the front, as far as it
+// is kept. The bytes of the buffer behind it are as they were. A part that would end past the buffer ends with it. The rows go into the words.
+pub fn advance(progress: Progress, buf: &mut [u8], filled: usize, words: &mut [u32]) -> Progress
+    ensures { λ r. ⌜ Advanced progress filled (now (buf .entry)) (now (buf .exit)) (now (words .entry)) (now (words .exit)) r ⌝ }
+{
+    let end = smaller(filled, buf.len());
+    let taken = block::lines_in(progress.intake, &buf[..end], words);
+    let used = taken.used;
+    let intake = taken.intake;
+    let kept = smaller(end - used, KEPT);
+    block::keep(buf, used, kept);
+    Progress { intake, kept }
+}
+
+// The end of input, with the kept bytes at the front of the buffer: what the program prints goes into the text.
+pub fn finish(
+    progress: Progress,
+    buf: &[u8],
+    words: &mut [u32],
+    out: &mut [u32],
+    scratch: &mut [u32],
+    text: &mut [u8],
+) -> Put
+    ensures { λ r. ⌜ Finished progress (now (buf .entry)) (now (words .entry)) (now (words .exit)) (now (out .entry)) (now (out .exit)) (now (scratch .entry)) (now (scratch .exit)) (now (text .entry)) (now (text .exit)) r ⌝ }
+{
+    let end = smaller(progress.kept, buf.len());
+    let intake = ending::last(progress.intake, &buf[..end], words);
+    ending::finish(intake, &words[..], out, scratch, text)
+}
+
+// What the program prints for a whole input.
+pub fn fill_file(input: &[u8], text: &mut [u8]) -> Put
+    ensures answer { λ r. ⌜ r ≡ putOf (length (now (text .entry))) 0 (fillText p (now (input .entry))) ⌝ }
+    ensures slice { λ _. ⌜ now (text .exit) ≡ written (now (text .entry)) 0 (fillText p (now (input .entry))) ⌝ }
+{
+    let mut words = [0u32; WORDS];
+    let mut out = [0u32; OUTPUT];
+    let mut scratch = [0u32; SCRATCH];
+    let begun = start();
+    let taken = block::lines_in(begun.intake, input, &mut words);
+    let used = taken.used;
+    let intake = ending::last(taken.intake, &input[used..], &mut words);
+    ending::finish(intake, &words, &mut out, &mut scratch, text)
+}

@@ -1,0 +1,185 @@
+// One whole line of the filling program's input: line 1, the value line, line 3, and the rows.
+use filler::faults;
+use lines::filling;
+use lines::filling::Given;
+use lines::filling::Task;
+use memory::Intake;
+use memory::Op;
+ghost use mathlib.Core.Path.{_≡_};
+ghost use Prim.Native.Nat.{_<_};
+ghost use lib.ListN.{set};
+ghost use Rattle.field.specs.Field.{p};
+ghost use Rattle.memory.specs.Names.{opCode};
+ghost use Rattle.memory.specs.Step.{raise};
+ghost use Rattle.memory.specs.FillFile.{parseJob};
+ghost use Rattle.memory.specs.FillStream.{gathered, refuseOn, namesTaken, jobTaken, rowsDue, refuseRow, passRow, storedAt, inputTaken, rowTaken, lineTaken};
+ghost use Rattle.fillfile.specs.Progress.{inputFaultAt, storedWords, givenRow};
+
+// The op of an init row.
+const INIT: u32 = 0;
+
+// A sum that ends at the largest number.
+pub fn raise(x: u32, k: u32) -> u32
+    ensures { λ r. ⌜ r ≡ raise x k ⌝ }
+{
+    if u32::MAX - k < x { u32::MAX } else { x + k }
+}
+
+// A fault on a line.
+pub fn refuse(mut intake: Intake, answer: u32, line: u32) -> Intake
+    ensures { λ r. ⌜ r ≡ refuseOn intake answer line ⌝ }
+{
+    intake.answer = answer;
+    intake.line = line;
+    intake
+}
+
+// A fault of the next row, which stands on line passed + 4.
+pub fn refuse_row(intake: Intake, answer: u32) -> Intake
+    ensures { λ r. ⌜ r ≡ refuseRow intake answer ⌝ }
+{
+    let line = raise(intake.passed, 4);
+    refuse(intake, answer, line)
+}
+
+// How many rows are due.
+pub fn due(intake: Intake) -> usize
+    ensures { λ r. ⌜ r ≡ rowsDue intake ⌝ }
+{
+    intake.size as usize + intake.count as usize
+}
+
+// A names line by its fault, or 0.
+fn named(mut intake: Intake, place: u32, fault: u32) -> Intake
+    requires { ⌜ place < 4 ⌝ }
+    ensures { λ r. ⌜ r ≡ namesTaken intake place fault ⌝ }
+{
+    if fault == 0 {
+        intake.place = place + 1;
+        return intake;
+    }
+    refuse(intake, fault, place)
+}
+
+// The value line.
+fn opened(intake: Intake, text: &[u8], ended: bool) -> Intake
+    ensures { λ r. ⌜ r ≡ jobTaken intake (parseJob p (record { text = now (text .entry); ended = ended })) ⌝ }
+{
+    match filling::job_line(text, ended) {
+        Task::Fill {
+            memory,
+            size,
+            count,
+        } => Intake {
+            place: 3,
+            memory,
+            size,
+            count,
+            passed: 0,
+            answer: 0,
+            line: 0,
+        },
+        Task::Fault(fault) => refuse(intake, fault, 2),
+    }
+}
+
+// The number of an op.
+fn code(op: Op) -> u32
+    ensures { λ r. ⌜ r ≡ opCode op ⌝ }
+{
+    match op {
+        Op::Init => INIT,
+        Op::Access => 1,
+        Op::Look => 2,
+        Op::Member => 3,
+        Op::Push => 4,
+        Op::Pop => 5,
+        Op::Enqueue => 6,
+        Op::Dequeue => 7,
+        Op::End => 8,
+        Op::Range => 9,
+        Op::Other => 10,
+    }
+}
+
+// 3, 5 and 6 of the next row.
+fn fault(intake: Intake, op: u32, guard: u32, addr: u32, value: u32) -> u32
+    ensures { λ r. ⌜ r ≡ inputFaultAt intake op guard addr value ⌝ }
+{
+    if !faults::below(guard, addr, value) {
+        return 3;
+    }
+    if intake.passed < intake.size {
+        return faults::single(op == INIT, (guard == 0) & (addr == 0));
+    }
+    let memory = intake.memory;
+    faults::form(memory, op, guard, addr, value)
+}
+
+// Writes a word where there is one.
+fn put(words: &mut [u32], at: usize, word: u32)
+    ensures { λ _. ⌜ now (words .exit) ≡ set (now (words .entry)) at word ⌝ }
+{
+    if at < words.len() {
+        words[at] = word;
+    }
+}
+
+// Writes row k.
+fn store(words: &mut [u32], k: u32, op: u32, guard: u32, addr: u32, value: u32)
+    ensures { λ _. ⌜ now (words .exit) ≡ storedWords (now (words .entry)) k op guard addr value ⌝ }
+{
+    let at = 4 * (k as usize);
+    put(words, at, op);
+    put(words, at + 1, guard);
+    put(words, at + 2, addr);
+    put(words, at + 3, value);
+}
+
+// A row that is due: it is stored, or its fault is the refusal.
+fn take(mut intake: Intake, op: Op, guard: u32, addr: u32, value: u32, words: &mut [u32]) -> Intake
+    ensures { λ r. ⌜ gathered r (now (words .exit)) ≡ inputTaken p (gathered intake (now (words .entry))) (givenRow op guard addr value) ⌝ }
+{
+    let number = code(op);
+    let fault = fault(intake, number, guard, addr, value);
+    if fault != 0 {
+        return refuse_row(intake, fault);
+    }
+    store(words, intake.passed, number, guard, addr, value);
+    intake.passed = raise(intake.passed, 1);
+    intake
+}
+
+// A row line; a surplus one is 7.
+fn row(intake: Intake, text: &[u8], ended: bool, words: &mut [u32]) -> Intake
+    ensures { λ r. ⌜ gathered r (now (words .exit)) ≡ rowTaken p (gathered intake (now (words .entry))) (record { text = now (text .entry); ended = ended }) ⌝ }
+{
+    if due(intake) <= intake.passed as usize {
+        return refuse_row(intake, 7);
+    }
+    match filling::input_line(text, ended) {
+        Given::Row {
+            op,
+            guard,
+            addr,
+            value,
+        } => take(intake, op, guard, addr, value, words),
+        Given::Fault(fault) => refuse_row(intake, fault),
+    }
+}
+
+// Any line: after a fault nothing is read.
+pub fn line(intake: Intake, text: &[u8], ended: bool, words: &mut [u32]) -> Intake
+    ensures { λ r. ⌜ gathered r (now (words .exit)) ≡ lineTaken p (gathered intake (now (words .entry))) (record { text = now (text .entry); ended = ended }) ⌝ }
+{
+    if intake.answer != 0 {
+        return intake;
+    }
+    let place = intake.place;
+    match place {
+        1 => named(intake, 1, filling::fill_names_line(text, ended)),
+        2 => opened(intake, text, ended),
+        3 => named(intake, 3, filling::input_names_line(text, ended)),
+        _ => row(intake, text, ended, words),
+    }
+}
