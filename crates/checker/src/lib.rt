@@ -6,9 +6,9 @@ use memory::Parsed;
 use memory::Products;
 use memory::Report;
 use memory::State;
+use memory::numbers;
 use rules::due;
 
-mod numbers;
 mod state;
 mod values;
 
@@ -103,7 +103,7 @@ pub fn step(s: State, parsed: Parsed) -> State
         return s;
     }
     if due::total(c) <= c.passed as u64 {
-        return state::refuse_next(s, numbers::SURPLUS);
+        return state::refuse_next(s, numbers::NOT_COMPLETE);
     }
     take(s, parsed)
 }
@@ -118,7 +118,7 @@ pub fn end(s: State) -> State
         return s;
     }
     if (c.passed as u64) < due::total(c) {
-        return state::refuse_next(s, numbers::MISSING);
+        return state::refuse_next(s, numbers::NOT_COMPLETE);
     }
     if ps.supplied != ps.looked {
         return state::refuse_last(s, numbers::RANGE);
@@ -158,7 +158,7 @@ pub fn report(s: State) -> Report
             mults: c.mults,
         }
     } else {
-        refused(numbers::MISSING, passing::raise(c.passed, 4))
+        refused(numbers::NOT_COMPLETE, passing::raise(c.passed, 4))
     }
 }
 

@@ -4,6 +4,9 @@ use super::Number;
 use field::Field;
 use memory::Memory;
 use memory::Op;
+use memory::names::FILL_NAMES;
+use memory::names::INPUT_NAMES;
+use memory::numbers;
 ghost use mathlib.Core.Path.{_≡_};
 ghost use mathlib.Core.Bool.{cond};
 ghost use Rattle.field.specs.Field.{p};
@@ -16,11 +19,6 @@ ghost use Rattle.lines.specs.Answers.{taskOf, givenOf};
 
 // "The filling program takes size and count up to 128"
 pub const LIMIT: u32 = 128;
-
-// Lines 1 and 3, "compared byte for byte".
-pub const FILL_NAMES: [u8; 17] = *b"memory,size,count";
-
-pub const INPUT_NAMES: [u8; 19] = *b"op,guard,addr,value";
 
 // What the value line reads as: its values, or its fault 2, 3 or 4.
 pub enum Task {
@@ -131,18 +129,18 @@ pub fn job_line(text: &[u8], ended: bool) -> Task
     ensures { λ r. ⌜ taskOf r ≡ parseJob p (record { text = now (text .entry); ended = ended }) ⌝ }
 {
     let Short::Fields(few) = split_short(text, ended, false) else {
-        return Task::Fault(2);
+        return Task::Fault(numbers::UNREADABLE);
     };
     if !below(few) {
-        return Task::Fault(3);
+        return Task::Fault(numbers::TOO_LARGE);
     }
     let Known::Is(memory) = super::memory_of(few.key) else {
-        return Task::Fault(4);
+        return Task::Fault(numbers::NOT_ALLOWED);
     };
     let size = few.first as u32;
     let count = few.second as u32;
     if !allowed(memory, size, count) {
-        return Task::Fault(4);
+        return Task::Fault(numbers::NOT_ALLOWED);
     }
     Task::Fill {
         memory,
@@ -156,10 +154,10 @@ pub fn input_line(text: &[u8], ended: bool) -> Given
     ensures { λ r. ⌜ givenOf r ≡ parseInput p (record { text = now (text .entry); ended = ended }) ⌝ }
 {
     let Short::Fields(few) = split_short(text, ended, true) else {
-        return Given::Fault(2);
+        return Given::Fault(numbers::UNREADABLE);
     };
     if !below(few) {
-        return Given::Fault(3);
+        return Given::Fault(numbers::TOO_LARGE);
     }
     Given::Row {
         op: super::op_of(few.key),

@@ -20,14 +20,12 @@ use memory::Memory;
 use memory::Op;
 use memory::Parsed;
 use memory::Row;
+use memory::names::ROW_NAMES;
+use memory::names::VALUE_NAMES;
+use memory::numbers;
 
 // "a line holds at most 80 bytes and then one line feed"
 pub const LONGEST: usize = 80;
-
-// Lines 1 and 3, "compared byte for byte".
-pub const VALUE_NAMES: [u8; 25] = *b"memory,size,count,r,a,b,c";
-
-pub const ROW_NAMES: [u8; 36] = *b"op,guard,addr,value,old,time,version";
 
 const COMMA: u8 = 44;
 
@@ -222,7 +220,7 @@ fn split_line(text: &[u8], ended: bool) -> Split
         return Split::Malformed;
     };
     let Number::Read(sixth, next) = number_at(text, next) else {
-        return Split::Malformed; // also where a number before it is large
+        return Split::Malformed; // 2, also where a number before it is p or more
     };
     if next != text.len() {
         return Split::Malformed;
@@ -306,10 +304,10 @@ pub fn row_line(text: &[u8], ended: bool) -> Parsed
     ensures { λ r. ⌜ r ≡ parseRow p (record { text = now (text .entry); ended = ended }) ⌝ }
 {
     let Split::Seven(values) = split_line(text, ended) else {
-        return Parsed::Fault(2);
+        return Parsed::Fault(numbers::UNREADABLE);
     };
     let Narrowed::Below(elements) = narrow(values) else {
-        return Parsed::Fault(3);
+        return Parsed::Fault(numbers::TOO_LARGE);
     };
     Parsed::Sound(Row {
         op: op_of(values.key),
@@ -327,13 +325,13 @@ pub fn value_line(text: &[u8], ended: bool) -> Opened
     ensures { λ r. ⌜ openingOf r ≡ parseValues p (record { text = now (text .entry); ended = ended }) ⌝ }
 {
     let Split::Seven(values) = split_line(text, ended) else {
-        return Opened::Shut(2);
+        return Opened::Shut(numbers::UNREADABLE);
     };
     let Narrowed::Below(elements) = narrow(values) else {
-        return Opened::Shut(3);
+        return Opened::Shut(numbers::TOO_LARGE);
     };
     let Known::Is(memory) = memory_of(values.key) else {
-        return Opened::Shut(4);
+        return Opened::Shut(numbers::NOT_ALLOWED);
     };
     Opened::Opens {
         memory,
@@ -353,16 +351,16 @@ fn names_fault(names: &[u8], text: &[u8], ended: bool) -> u32
     ensures { λ r. ⌜ r ≡ namesFault (now (names .entry)) (record { text = now (text .entry); ended = ended }) ⌝ }
 {
     if text.len() != names.len() {
-        return 1;
+        return numbers::NOT_NAMES;
     }
     let mut i = 0;
     while i < names.len() {
         if text[i] != names[i] {
-            return 1;
+            return numbers::NOT_NAMES;
         }
         i += 1;
     }
-    if ended { 0 } else { 2 }
+    if ended { 0 } else { numbers::UNREADABLE }
 }
 
 // The fault of line 1, or 0.
@@ -377,18 +375,4 @@ pub fn row_names_line(text: &[u8], ended: bool) -> u32
     ensures { λ r. ⌜ r ≡ namesFault rowNames (record { text = now (text .entry); ended = ended }) ⌝ }
 {
     names_fault(&ROW_NAMES, text, ended)
-}
-
-// The bytes of line 1, as a report or a filler writes them.
-pub fn value_names() -> [u8; 25]
-    ensures { λ r. ⌜ r ≡ valueNames ⌝ }
-{
-    VALUE_NAMES
-}
-
-// The bytes of line 3.
-pub fn row_names() -> [u8; 36]
-    ensures { λ r. ⌜ r ≡ rowNames ⌝ }
-{
-    ROW_NAMES
 }

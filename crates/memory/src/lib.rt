@@ -1,4 +1,6 @@
 // The types that the definitions of document 01 and the code share. There is no code here: definitions and statements are in specs/, proofs in proofs/.
+pub mod names;
+pub mod numbers;
 
 // "The memory is `ram`, `rom`, `set`, `stack` or `queue`."
 pub enum Memory {

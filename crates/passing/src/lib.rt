@@ -4,12 +4,12 @@ use memory::Context;
 use memory::Memory;
 use memory::Op;
 use memory::Row;
+use memory::numbers;
 use rules::columns;
 use rules::due;
 use rules::ops;
 
 mod gates;
-mod numbers;
 
 ghost use mathlib.Core.Path.{_≡_};
 ghost use mathlib.Core.Bool.{_&&_};
@@ -129,7 +129,7 @@ fn fault(c: Context, row: Row, next: Context) -> u32
         return numbers::NOT_FORMED;
     }
     if last_operation(c) & sinks(next) {
-        numbers::SUNK
+        numbers::BELOW_EMPTY
     } else {
         0
     }

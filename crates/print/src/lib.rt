@@ -3,6 +3,10 @@
 use memory::Op;
 use memory::Report;
 use memory::Row;
+use memory::names::REFUSAL_NAMES;
+use memory::names::REPORT_NAMES;
+use memory::names::ROW_NAMES;
+use rules::ops;
 ghost use mathlib.Core.Path.{_≡_};
 ghost use Prim.Native.Nat.{_<_};
 ghost use mathlib.Core.List.{[], _∷_, _++_};
@@ -10,15 +14,7 @@ ghost use lib.ListN.{length};
 ghost use Rattle.memory.specs.Bytes.{comma, feed};
 ghost use Rattle.memory.specs.Names.{opName, rowNames};
 ghost use Rattle.memory.specs.Print.{numberText, rowText, reportText, refusalText};
-ghost use Rattle.memory.specs.Filler.{opCoded};
 ghost use Rattle.print.specs.Put.{putOf, putAfter, written, writtenAfter, cellIn, rowIn};
-
-// The names lines that are printed, without their line feeds.
-pub const ROW_NAMES: [u8; 36] = *b"op,guard,addr,value,old,time,version";
-
-pub const REPORT_NAMES: [u8; 24] = *b"answer,line,inputs,mults";
-
-pub const REFUSAL_NAMES: [u8; 11] = *b"answer,line";
 
 // The byte of the digit 0, and the most digits of a u32.
 const ZERO: u8 = 48;
@@ -185,25 +181,6 @@ pub fn refusal(buf: &mut [u8], at: usize, answer: u32, place: u32) -> Put
     end_line(buf, end)
 }
 
-// The op that a number stands for.
-fn op_coded(code: u32) -> Op
-    ensures { λ r. ⌜ r ≡ opCoded code ⌝ }
-{
-    match code {
-        0 => Op::Init,
-        1 => Op::Access,
-        2 => Op::Look,
-        3 => Op::Member,
-        4 => Op::Push,
-        5 => Op::Pop,
-        6 => Op::Enqueue,
-        7 => Op::Dequeue,
-        8 => Op::End,
-        9 => Op::Range,
-        _ => Op::Other,
-    }
-}
-
 // The number in a column of the row at place k of a slice of output rows, 7 numbers a row; 0 where there is none.
 fn cell(rows: &[u32], k: usize, column: usize) -> u32
     requires { ⌜ column < 7 ⌝ }
@@ -222,7 +199,7 @@ fn row_in(rows: &[u32], k: usize) -> Row
 {
     let code = cell(rows, k, 0);
     Row {
-        op: op_coded(code),
+        op: ops::coded(code),
         guard: cell(rows, k, 1),
         addr: cell(rows, k, 2),
         value: cell(rows, k, 3),

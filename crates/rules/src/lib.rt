@@ -1,4 +1,5 @@
-// The rules of a row: which rows are due, and what a row looks like.
+// The rules that the checker and the filler share: sizes, which rows are due, what a row looks like, and the numbers of the ops.
 pub mod columns;
 pub mod due;
 pub mod ops;
+pub mod sizes;

@@ -2,9 +2,10 @@
 use memory::Op;
 ghost use mathlib.Core.Path.{_≡_};
 ghost use Rattle.memory.specs.Names.{opCode, isOp};
+ghost use Rattle.memory.specs.Filler.{opCoded};
 
-// The number of an op.
-fn code(op: Op) -> u32
+// The number of an op in the slices of the filler's library.
+pub fn code(op: Op) -> u32
     ensures { λ r. ⌜ r ≡ opCode op ⌝ }
 {
     match op {
@@ -19,6 +20,25 @@ fn code(op: Op) -> u32
         Op::End => 8,
         Op::Range => 9,
         Op::Other => 10,
+    }
+}
+
+// The op that a number stands for.
+pub fn coded(code: u32) -> Op
+    ensures { λ r. ⌜ r ≡ opCoded code ⌝ }
+{
+    match code {
+        0 => Op::Init,
+        1 => Op::Access,
+        2 => Op::Look,
+        3 => Op::Member,
+        4 => Op::Push,
+        5 => Op::Pop,
+        6 => Op::Enqueue,
+        7 => Op::Dequeue,
+        8 => Op::End,
+        9 => Op::Range,
+        _ => Op::Other,
     }
 }
 

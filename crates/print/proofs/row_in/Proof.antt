@@ -10,8 +10,8 @@ use Rattle.print.proofs.row_in.Tie as tie
 cell-requires : tie.Need-cell-requires
 cell-requires c κs = search needs
 
-op-coded-requires : tie.Need-op-coded-requires
-op-coded-requires c κs = search needs
+coded-requires : tie.Need-coded-requires
+coded-requires c κs = search needs
 
 cell-requires-2 : tie.Need-cell-requires-2
 cell-requires-2 c κs = search needs
@@ -36,7 +36,7 @@ unfolding rowIn
 returns c =
     let code = c .before .before .before .before .before .before in
     λ i. record {
-      op = (code .op-coded .ensures ∙ ap opCoded (code .before .cell .ensures)) i;
+      op = (code .coded .ensures ∙ ap opCoded (code .before .cell .ensures)) i;
       guard = c .before .before .before .before .before .cell2 .ensures i;
       addr = c .before .before .before .before .cell3 .ensures i;
       value = c .before .before .before .cell4 .ensures i;
@@ -46,4 +46,4 @@ returns c =
     }
 
 pub row-in-spec : {M : Type 1} → statement M
-row-in-spec = tie.close (tie.spec cell-requires op-coded-requires cell-requires-2 cell-requires-3 cell-requires-4 cell-requires-5 cell-requires-6 cell-requires-7 returns)
+row-in-spec = tie.close (tie.spec cell-requires coded-requires cell-requires-2 cell-requires-3 cell-requires-4 cell-requires-5 cell-requires-6 cell-requires-7 returns)

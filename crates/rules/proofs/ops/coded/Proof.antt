@@ -1,9 +1,9 @@
--- `print::op_coded` meets its contract: each arm is the op of its number, and the last that of every other number.
+-- `rules::ops::coded` meets its contract: each arm is the op of its number, and the last that of every other number.
 -- Assumes nothing.
 use borrow.Author.Tests.{ne-eqb}
 use Rattle.memory.specs.Filler.{opCoded}
-use Rattle.print.proofs.op_coded.Statement.{statement}
-use Rattle.print.proofs.op_coded.Tie as tie
+use Rattle.rules.proofs.ops.coded.Statement.{statement}
+use Rattle.rules.proofs.ops.coded.Tie as tie
 
 returns : tie.Need-returns
 unfolding opCoded
@@ -63,5 +63,5 @@ returns-11 c =
       ne-eqb n 0 (r .0 .0 .0 .0 .0 .0 .0 .0 .0 .1),
     )
 
-pub op-coded-spec : {M : Type 1} → statement M
-op-coded-spec = tie.close (tie.spec returns returns-2 returns-3 returns-4 returns-5 returns-6 returns-7 returns-8 returns-9 returns-10 returns-11)
+pub coded-spec : {M : Type 1} → statement M
+coded-spec = tie.close (tie.spec returns returns-2 returns-3 returns-4 returns-5 returns-6 returns-7 returns-8 returns-9 returns-10 returns-11)

@@ -1,9 +1,9 @@
--- `checker::values::sized` meets its contract: in each arm the variant is known, and the definition computes.
+-- `rules::sizes::sized` meets its contract: in each arm the variant is known, and the definition computes.
 -- Assumes nothing.
 use borrow.Author.Needs.{needs}
 use Rattle.memory.specs.Rows.{limit, sized}
-use Rattle.checker.proofs.values.sized.Statement.{statement}
-use Rattle.checker.proofs.values.sized.Tie as tie
+use Rattle.rules.proofs.sizes.sized.Statement.{statement}
+use Rattle.rules.proofs.sizes.sized.Tie as tie
 
 enum-told : tie.Need-enum-told
 enum-told c = search needs

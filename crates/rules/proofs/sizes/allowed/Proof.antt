@@ -1,9 +1,9 @@
--- `checker::values::allowed` meets its contract.
+-- `rules::sizes::allowed` meets its contract.
 -- Assumes nothing.
 use borrow.Author.Needs.{needs}
 use Rattle.memory.specs.Rows.{limit, allowed}
-use Rattle.checker.proofs.values.allowed.Statement.{statement}
-use Rattle.checker.proofs.values.allowed.Tie as tie
+use Rattle.rules.proofs.sizes.allowed.Statement.{statement}
+use Rattle.rules.proofs.sizes.allowed.Tie as tie
 
 sized-requires : tie.Need-sized-requires
 sized-requires c κs = search needs
