@@ -15,7 +15,7 @@ my $runs    = 7;
 my $folder  = 'target/bench';
 make_path($folder);
 
-my $state = 20241115;
+my $state = 271828182;
 sub draw { my ($below) = @_; $state = $state * 48271 % 2147483647; return $state % $below; }
 
 # The init rows and operations of a run of this memory.
