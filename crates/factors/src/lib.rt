@@ -6,11 +6,12 @@ use memory::Memory;
 use memory::Op;
 use memory::Products;
 use memory::Row;
+use rules::ages;
 use rules::due;
 ghost use mathlib.Core.Path.{_≡_};
 ghost use Prim.Native.Nat.{_%_};
 ghost use Rattle.algebra.specs.Modulo.{times};
-ghost use Rattle.field.specs.Field.{p, subOf};
+ghost use Rattle.field.specs.Field.{p};
 ghost use Rattle.memory.specs.Equations.{triple, pair, factor, newOf};
 ghost use Rattle.memory.specs.Step.{ramClock, endPlace, rangePlace, multiply};
 
@@ -37,13 +38,6 @@ fn clock(c: Context) -> u32
     } else {
         Field::add(c.passed - c.size, 1)
     }
-}
-
-// "looks up clock − time", modulo p
-fn age(clock: u32, time: u32) -> u32
-    ensures { λ r. ⌜ r ≡ subOf clock time ⌝ }
-{
-    Field::sub(clock, time)
 }
 
 // ram: "new is value under guard 1, old under guard 0"
@@ -112,7 +106,7 @@ fn access(ch: Challenge, c: Context, row: Row, ps: Products) -> Products
     ensures { λ r. ⌜ r ≡ multiply p ch c row ps ⌝ }
 {
     let clock = clock(c);
-    let age = age(clock, row.time);
+    let age = ages::age(clock, row.time);
     let mut o = ps;
     o.written = by_triple(ch, ps.written, row.addr, chosen(row), clock);
     o.read = by_triple(ch, ps.read, row.addr, row.old, row.time);
@@ -175,7 +169,7 @@ fn pop(ch: Challenge, c: Context, row: Row, ps: Products) -> Products
     requires { ⌜ row .op ≡ Op.Pop ⌝ }
     ensures { λ r. ⌜ r ≡ multiply p ch c row ps ⌝ }
 {
-    let age = age(Field::add(c.pushed, 1), row.time);
+    let age = ages::age(Field::add(c.pushed, 1), row.time);
     let mut o = ps;
     o.supplied = by_pair(ch, ps.supplied, age, Field::add(row.version, 1));
     o.looked = by_pair(ch, ps.looked, age, row.version);

@@ -1,4 +1,5 @@
-// The rules that the checker and the filler share: sizes, which rows are due, what a row looks like, and the numbers of the ops.
+// The rules that the checker and the filler share: sizes, which rows are due, what a row looks like, ages, and the numbers of the ops.
+pub mod ages;
 pub mod columns;
 pub mod due;
 pub mod ops;
