@@ -18,6 +18,7 @@ ghost use lib.Dec.{eqb};
 ghost use Rattle.field.specs.Field.{p};
 ghost use Rattle.memory.specs.File.{refused};
 ghost use Rattle.memory.specs.Step.{freshOf, takeParsed, stepOf, endOf, reportOf};
+ghost use Rattle.checker.specs.Unread.{unreadOf};
 
 // A fault of the value line stands on line 2.
 fn value_line(fault: u32) -> u32
@@ -60,37 +61,40 @@ pub fn fresh(memory: Memory, size: u32, count: u32, challenge: Challenge) -> Sta
     }
 }
 
-// The fault of a line that reads as no row: 3, and any other counts as 2.
-fn line_fault(fault: u32) -> u32
-    ensures { λ r. ⌜ r ≡ cond (eqb fault 3) 3 2 ⌝ }
+// The number of a line that reads as no row: 3, and any other fault counts as 2.
+fn line_fault(parsed: Parsed) -> u32
+    ensures { λ r. ⌜ r ≡ unreadOf parsed ⌝ }
 {
-    if fault == numbers::TOO_LARGE {
-        numbers::TOO_LARGE
-    } else {
-        numbers::UNREADABLE
+    match parsed {
+        Parsed::Sound(_) => 0,
+        Parsed::Fault(fault) => {
+            if fault == numbers::TOO_LARGE {
+                numbers::TOO_LARGE
+            } else {
+                numbers::UNREADABLE
+            }
+        }
     }
 }
 
-// A row that is due, as its line reads: a number of p or more is 3.
+// A row that is due, as its line reads. A line that reads as none is refused with its number, on the next line; a number of p or more is 3.
 fn take(s: State, parsed: Parsed) -> State
     ensures { λ r. ⌜ r ≡ takeParsed p s parsed ⌝ }
 {
-    match parsed {
-        Parsed::Sound(row) => {
-            if values::below(
-                row.guard,
-                row.addr,
-                row.value,
-                row.old,
-                row.time,
-                row.version,
-            ) {
-                state::take_row(s, row)
-            } else {
-                state::refuse_next(s, numbers::TOO_LARGE)
-            }
-        }
-        Parsed::Fault(fault) => state::refuse_next(s, line_fault(fault)),
+    let Parsed::Sound(row) = parsed else {
+        return state::refuse_next(s, line_fault(parsed));
+    };
+    if values::below(
+        row.guard,
+        row.addr,
+        row.value,
+        row.old,
+        row.time,
+        row.version,
+    ) {
+        state::take_row(s, row)
+    } else {
+        state::refuse_next(s, numbers::TOO_LARGE)
     }
 }
 

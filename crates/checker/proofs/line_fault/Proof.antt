@@ -1,14 +1,28 @@
 -- `checker::line_fault` meets its contract.
 -- Assumes nothing.
+use borrow.Author.Needs.{needs}
 use borrow.Author.Tests.{eq-eqb, ne-eqb}
+use Rattle.checker.specs.Unread.{unreadOf}
 use Rattle.checker.proofs.line_fault.Statement.{statement}
 use Rattle.checker.proofs.line_fault.Tie as tie
 
+enum-told : tie.Need-enum-told
+enum-told c = search needs
+
+enum-known-parsed : tie.Need-enum-known-parsed
+enum-known-parsed c = search needs
+
 returns : tie.Need-returns
-returns c = simp (eq-eqb _ _ (c .if1 .taken))
+unfolding unreadOf
+returns c = simp (c .enum-told .given .1)
 
 returns-2 : tie.Need-returns-2
-returns-2 c = simp (ne-eqb _ _ (c .if1 .left))
+unfolding unreadOf
+returns-2 c = let known = c .before .before .parsed .given .1 in simp (known, eq-eqb _ _ (c .if1 .taken))
+
+returns-3 : tie.Need-returns-3
+unfolding unreadOf
+returns-3 c = let known = c .before .before .parsed .given .1 in simp (known, ne-eqb _ _ (c .if1 .left))
 
 pub line-fault-spec : {M : Type 1} → statement M
-line-fault-spec = tie.close (tie.spec returns returns-2)
+line-fault-spec = tie.close (tie.spec enum-told enum-known-parsed returns returns-2 returns-3)

@@ -3,11 +3,27 @@
 use borrow.Author.Needs.{needs}
 use Rattle.memory.specs.Rows.{rowBelow}
 use Rattle.memory.specs.Step.{takeParsed}
+use Rattle.checker.specs.Unread.{unreadOf}
 use Rattle.checker.proofs.take.Statement.{statement}
 use Rattle.checker.proofs.take.Tie as tie
 
 enum-known-parsed : tie.Need-enum-known-parsed
 enum-known-parsed c = search needs
+
+enum-told : tie.Need-enum-told
+enum-told c = search needs
+
+line-fault-requires : tie.Need-line-fault-requires
+line-fault-requires c κs = search needs
+
+refuse-next-requires : tie.Need-refuse-next-requires
+refuse-next-requires c κs = search needs
+
+returns : tie.Need-returns
+unfolding takeParsed unreadOf
+returns c =
+    let c1 = c .before in
+    simp (c .refuse-next .ensures, c1 .line-fault .ensures, c1 .before .enum-told .given .1)
 
 below-requires : tie.Need-below-requires
 below-requires c κs = search needs
@@ -15,49 +31,34 @@ below-requires c κs = search needs
 take-row-requires : tie.Need-take-row-requires
 take-row-requires c κs = search needs
 
-refuse-next-requires : tie.Need-refuse-next-requires
-refuse-next-requires c κs = search needs
-
-enum-known-parsed-2 : tie.Need-enum-known-parsed-2
-enum-known-parsed-2 c = search needs
-
-line-fault-requires : tie.Need-line-fault-requires
-line-fault-requires c κs = search needs
-
 refuse-next-requires-2 : tie.Need-refuse-next-requires-2
 refuse-next-requires-2 c κs = search needs
-
-returns : tie.Need-returns
-unfolding takeParsed rowBelow
-returns c =
-    let c1 = c .before in
-    let c2 = c1 .before in
-    simp (c .take-row .ensures, c2 .before .before .parsed .given .1, c1 .if1 .taken, ← c2 .below .ensures)
 
 returns-2 : tie.Need-returns-2
 unfolding takeParsed rowBelow
 returns-2 c =
     let c1 = c .before in
     let c2 = c1 .before in
-    simp (c .refuse-next .ensures, c2 .before .before .parsed .given .1, c1 .if1 .left, ← c2 .below .ensures)
+    simp (c .take-row .ensures, c2 .before .before .parsed .given .1, c1 .if1 .taken, ← c2 .below .ensures)
 
 returns-3 : tie.Need-returns-3
-unfolding takeParsed
+unfolding takeParsed rowBelow
 returns-3 c =
     let c1 = c .before in
-    simp (c .refuse-next2 .ensures, c1 .before .before .parsed2 .given .1, c1 .line-fault .ensures)
+    let c2 = c1 .before in
+    simp (c .refuse-next2 .ensures, c2 .before .before .parsed .given .1, c1 .if1 .left, ← c2 .below .ensures)
 
 pub take-spec : {M : Type 1} → statement M
 take-spec =
     tie.close
     (tie.spec
     enum-known-parsed
+    enum-told
+    line-fault-requires
+    refuse-next-requires
+    returns
     below-requires
     take-row-requires
-    refuse-next-requires
-    enum-known-parsed-2
-    line-fault-requires
     refuse-next-requires-2
-    returns
     returns-2
     returns-3)
