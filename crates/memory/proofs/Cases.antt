@@ -6,7 +6,7 @@ use Rattle.field.specs.Field.{p}
 use Rattle.memory.specs.Text.{bytes}
 use Rattle.memory.specs.Bytes.{longest, fitting, comma, feed, same, onto, fields, digit, digits, decimalFrom, numeral, numerals, numbers, allBelow, before, linesOf}
 use Rattle.memory.specs.Names.{valueNames, rowNames, reportNames, memoryName, memoryNamed, opName, opNamed, opCode, isOp}
-use Rattle.memory.specs.Rows.{limit, sized, allowed, raiseBy, lowerBy, raised, lowered, endsDue, rangesDue, phaseAt, opsDue, opIn, columns, used, empty, formed, rowOfFields, parseRow, depthFactor, depthProduct, sunk, dueAfter, phaseAfter, rowFault, parsedFault, lineFault}
+use Rattle.memory.specs.Rows.{limit, sized, allowed, raiseBy, lowerBy, raised, lowered, endsDue, rangesDue, phaseAt, opsDue, opIn, columns, used, empty, formed, rowBelow, rowOfFields, parseRow, depthFactor, depthProduct, sunk, dueAfter, phaseAfter, rowFault, parsedFault, lineFault}
 use Rattle.memory.specs.Equations.{triple, pair, factor, product, balanced, initWrites, lookRead, lookWrite, romEnds, setInit, memberRead, memberWrite, rangeSetup, rangeRead, rangeWrite, rangeEnds, accessRead, newOf, accessWrites, accessLookups, cellEnds, pushWrite, pushWrites, popRead, popReads, popLookup, popLookups, enqueues, dequeues, endOlds, shuffleLists, rangedLists, listsOf, initRows, operationRows, endRows, rangeRows, fileLists, rangeBalances, memoryBalances}
 use Rattle.memory.specs.Gates.{rowInputs, costs, rowCosts, rowMults, inputsOf, multsOf}
 use Rattle.memory.specs.File.{noRow, parsedRow, rowsOf, parseRows, refusal, firstFault, refused, accepted, balanceReport, rowsReport, valuesFault, valuesReport, openedBy, openingOfFields, parseValues, namesFault, namesReport, openingReport, linesReport, fileReport}
@@ -14,7 +14,7 @@ use Rattle.memory.specs.Print.{digitsOnto, numberText, numbersText, repo
 use Rattle.memory.specs.Cases.{case, ramCase, cases, reported, allReported, CasesHold, openedProducts, productsOf, RamProducts}
 
 pub cases-hold : CasesHold
-unfolding bytes longest fitting comma feed same onto fields digit digits decimalFrom numeral numerals numbers allBelow before linesOf valueNames rowNames reportNames memoryName memoryNamed opName opNamed opCode isOp limit sized allowed raiseBy lowerBy raised lowered endsDue rangesDue phaseAt opsDue opIn columns used empty formed rowOfFields parseRow depthFactor depthProduct sunk dueAfter phaseAfter rowFault parsedFault lineFault triple pair factor product balanced initWrites lookRead lookWrite romEnds setInit memberRead memberWrite rangeSetup rangeRead rangeWrite rangeEnds accessRead newOf accessWrites accessLookups cellEnds pushWrite pushWrites popRead popReads popLookup popLookups enqueues dequeues endOlds shuffleLists rangedLists listsOf initRows operationRows endRows rangeRows fileLists rangeBalances memoryBalances rowInputs costs rowCosts rowMults inputsOf multsOf noRow parsedRow rowsOf parseRows refusal firstFault refused accepted balanceReport rowsReport valuesFault valuesReport openedBy openingOfFields parseValues namesFault namesReport openingReport linesReport fileReport digitsOnto numberText numbersText reportText case ramCase cases reported allReported plus minus times hash hashFrom p
+unfolding bytes longest fitting comma feed same onto fields digit digits decimalFrom numeral numerals numbers allBelow before linesOf valueNames rowNames reportNames memoryName memoryNamed opName opNamed opCode isOp limit sized allowed raiseBy lowerBy raised lowered endsDue rangesDue phaseAt opsDue opIn columns used empty formed rowBelow rowOfFields parseRow depthFactor depthProduct sunk dueAfter phaseAfter rowFault parsedFault lineFault triple pair factor product balanced initWrites lookRead lookWrite romEnds setInit memberRead memberWrite rangeSetup rangeRead rangeWrite rangeEnds accessRead newOf accessWrites accessLookups cellEnds pushWrite pushWrites popRead popReads popLookup popLookups enqueues dequeues endOlds shuffleLists rangedLists listsOf initRows operationRows endRows rangeRows fileLists rangeBalances memoryBalances rowInputs costs rowCosts rowMults inputsOf multsOf noRow parsedRow rowsOf parseRows refusal firstFault refused accepted balanceReport rowsReport valuesFault valuesReport openedBy openingOfFields parseValues namesFault namesReport openingReport linesReport fileReport digitsOnto numberText numbersText reportText case ramCase cases reported allReported plus minus times hash hashFrom p
 cases-hold = tt
 
 pub ram-products : RamProducts

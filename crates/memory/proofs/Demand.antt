@@ -23,7 +23,7 @@ use Rattle.memory.specs.Plain.{right}
 use Rattle.memory.specs.Bound.{accepts, challenges, malformed, degree, rowsIn, traceIn, Advised}
 use Rattle.memory.specs.Statements.{Holds, Demand, DemandAt, DemandThree}
 use Rattle.memory.proofs.Balance.{challenges-none}
-use Rattle.memory.proofs.ReadRows.{both-pass, chosen-zero, lines-numbered, lines-below}
+use Rattle.memory.proofs.ReadRows.{both-pass, chosen-zero, lines-below}
 use Rattle.memory.proofs.WellFormed.{no-fault-well-formed}
 use Rattle.memory.proofs.WrongTrace.{right-or-rare}
 use Rattle.memory.proofs.Fold.{accepts-exactly-when}
@@ -115,7 +115,7 @@ wrong-trace-bound q m n t lines prime wide room small good wrong = go (ℕ-discr
         (right-or-rare q m n t (rowsIn q lines) (accepts q m n t lines) prime wide room small
         (allowed-sized m n t (well-sized q m n t lines good) .0)
         (lines-below q lines (omega (arith, prime .two)))
-        (no-fault-well-formed q m n t (parseRows q lines) (lines-numbered q lines) e)
+        (no-fault-well-formed q m n t (parseRows q lines) e)
         (λ ch accepted. (holds ch accepted .range, holds ch accepted .memory))) [
           | inl fits ↦ absurd (true≢false (sym fits ∙ wrong))
           | inr few ↦ few

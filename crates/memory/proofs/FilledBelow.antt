@@ -17,19 +17,16 @@ use Rattle.memory.specs.declared.Phase.the-variants.{Starting, Operating
 use Rattle.memory.specs.declared.Row.{Row}
 use Rattle.memory.specs.Bytes.{allBelow}
 use Rattle.memory.specs.Names.{opCode, isOp}
-use Rattle.memory.specs.Rows.{opsDue, opIn}
+use Rattle.memory.specs.Rows.{opsDue, opIn, rowBelow}
 use Rattle.memory.specs.Plain.{among}
 use Rattle.memory.specs.Honest.{Input, filledRow, bare, endRow, rangeRow, occurrences, rangeRowsFrom, Cell, cell, cellAt, ramAge, ramRow, ramCells, ramEnds, ramFrom, romEndsFrom, romFrom, setEndsFrom, setFrom, topCell, stackEnds, popTime, popRow, stackFrom, queueFrom, operationsFilled, filledRows}
-use Rattle.memory.specs.Filler.{rowsFault}
-use Rattle.memory.proofs.ReadRows.{both-pass}
-use Rattle.memory.proofs.Operations.{not-among}
+use Rattle.memory.proofs.ReadRows.{both-pass, RowsBelow, row-below}
+use Rattle.memory.proofs.Operations.{not-among, other-not-due}
 use Rattle.memory.proofs.Phases.{formed-guard}
 use Rattle.memory.proofs.Lengths.{columnsOf}
 use Rattle.memory.proofs.RoundTrip.{Printable, AllPrintable}
 use Rattle.memory.proofs.HonestLookups.{All, occurs-at-most}
-use Rattle.memory.proofs.FillerRows.{DueInput, DueInputs, Unrefused, no-refusal}
-use Rattle.memory.proofs.HonestRows.{valuesOf}
-use Rattle.memory.proofs.HonestBalances.{other-not-due}
+use Rattle.memory.proofs.FillerRows.{DueInput, DueInputs, valuesOf, Unrefused}
 
 -- What holds of both choices holds of the chosen one; of the first it may suppose the test.
 pub decided : {A : Type 0} (P : A → Type 0) (b : Bool) {x y : A} → (b ≡ true → P x) → P y → P (cond b x y)
@@ -284,9 +281,13 @@ filled-printable-rows q m t inits ops room count u =
     printable-append q (map bare inits) _ (bares-printable q m Starting inits (omega arith) (u .starting))
     (operations-printable q m t (valuesOf inits) ops room count (values-below q m Starting inits (u .starting)) (u .operating))
 
--- the same by the filler's answer
-pub filled-below : (q : ℕ) (m : Memory) (t : ℕ) (inits ops : List Input) → t + 1 < q → length ops ≡ t
-    → rowsFault q m (map (λ i. i .value) inits) 1 inits ops .number ≡ 0
-    → AllPrintable q (filledRows m t inits ops)
-filled-below q m t inits ops room count e =
-    filled-printable-rows q m t inits ops room count (no-refusal q m (map (λ i. i .value) inits) 1 inits ops e)
+-- rows that lines can hold have their numbers below q
+printable-below : (q : ℕ) (rows : List Row) → AllPrintable q rows → RowsBelow q rows
+unfolding rowBelow columnsOf
+printable-below q [] p = tt
+printable-below q (row ∷ rows) p = (row-below q row (p .0 .small), printable-below q rows (p .1))
+
+-- and so have the rows that the filler writes
+pub filled-below : (q : ℕ) (m : Memory) (t : ℕ) (inits ops : List Input) → t + 1 < q → length ops ≡ t → Unrefused q m (valuesOf inits) inits ops
+    → RowsBelow q (filledRows m t inits ops)
+filled-below q m t inits ops room count u = printable-below q (filledRows m t inits ops) (filled-printable-rows q m t inits ops room count u)

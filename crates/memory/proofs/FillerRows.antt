@@ -259,6 +259,10 @@ due-operations q m content k (i ∷ is) due can =
     rw (due-input q m Operating i (due .0), eqb-true (impossible content (inputOperation m i)) 0 (both .0))
     (due-operations q m (after content (inputOperation m i)) (suc k) is (due .1) (both .1))
 
+-- the values of init rows
+abbrev pub valuesOf : List Input → List ℕ
+valuesOf inits = map (λ i. i .value) inits
+
 -- what it is that the filler refuses nothing
 pub record Unrefused (q : ℕ) (m : Memory) (values : List ℕ) (inits ops : List Input) : Type 0 where
   pub starting : DueInputs q m Starting inits

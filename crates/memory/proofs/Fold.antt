@@ -1,4 +1,4 @@
--- The steps of a checker and the whole file: the fresh state, advanced by any lines and ended, reports what the whole-file definition says. A state that has
+-- The steps of a checker and the whole file: the fresh state, advanced by whatever lines can read as and ended, reports what the whole-file definition says. A state that has
 -- refused or ended is fixed. The answer is 0 exactly when the rows are complete and well-formed and the equations hold.
 -- Assumes nothing.
 use Prim.Native.Nat.{ℕ, _+_, _≤_}
@@ -20,16 +20,16 @@ use Rattle.memory.specs.declared.Products.{Products}
 use Rattle.memory.specs.declared.State.{State}
 use Rattle.memory.specs.declared.Report.{Report}
 use Rattle.memory.specs.Bytes.{Line, allBelow}
-use Rattle.memory.specs.Rows.{allowed, raised, lowered, depthProduct, parseRow, dueAfter, rowFault, parsedFault, lineFault}
+use Rattle.memory.specs.Rows.{allowed, raised, lowered, depthProduct, rowBelow, parseRow, dueAfter, rowFault, parsedFault, lineFault}
 use Rattle.memory.specs.Gates.{inputsOf, multsOf}
 use Rattle.memory.specs.File.{parsedRow, rowsOf, parseRows, Refusal, refusal, firstFault, refused, accepted, balanceReport, rowsReport, valuesFault, valuesReport}
 use Rattle.memory.specs.Step.{raise, takesRows, due, refuseAt, refuseNext, refuseLast, passed, withContext, takeRow, takeParsed, stepOf, rowOf, ends, endOf, reportOf, freshContext, freshProducts, freshOf, multiplied, stepsOf, runOf}
 use Rattle.memory.specs.Equations.{fileLists, rangeBalances, memoryBalances}
 use Rattle.memory.specs.Bound.{accepts, rowsIn}
-use Rattle.memory.specs.Statements.{FoldIsFile, FixedState, EndedState, AcceptsExactlyWhen, Holds}
+use Rattle.memory.specs.Statements.{FoldIsFile, RunIsFile, FixedState, EndedState, AcceptsExactlyWhen, Holds}
 use Rattle.memory.proofs.Due.{Passes, due-form}
 use Rattle.memory.proofs.Emitted.{contextOf, none, emitted, productsOf}
-use Rattle.memory.proofs.ReadRows.{Numbered, AllNumbered, fault-not-zero, lines-numbered}
+use Rattle.memory.proofs.ReadRows.{fault-not-zero}
 use Rattle.memory.proofs.Placed.{complete-of-lines}
 use Rattle.memory.proofs.Closing.{verdict, closing, closing-is-balance}
 use Rattle.memory.proofs.Reached.{stateOf, Bounded, bounded-start, bounded-next, next-line, last-line, passed-state, step-fault}
@@ -119,13 +119,19 @@ unfolding stepOf stateOf contextOf takesRows due dueAfter
 step-surplus q m n t ch rows x e = rw e
 
 step-fault-line : (q : ℕ) (m : Memory) (n t : ℕ) (ch : Challenge) (rows : List Row) (f : ℕ) → ltb (length rows) (dueAfter m n t rows) ≡ true
-    → Numbered q (Fault f)
-    → stepOf q (stateOf q m n t ch rows) (Fault f) ≡ withContext (stateOf q m n t ch rows) (refuseNext (contextOf q m n t rows) f)
+    → stepOf q (stateOf q m n t ch rows) (Fault f)
+    ≡ withContext (stateOf q m n t ch rows) (refuseNext (contextOf q m n t rows) (cond (eqb f 3) 3 2))
 unfolding stepOf stateOf contextOf takesRows due dueAfter takeParsed
-step-fault-line q m n t ch rows f e r = rw (e, r)
+step-fault-line q m n t ch rows f e = rw e
+
+step-large : (q : ℕ) (m : Memory) (n t : ℕ) (ch : Challenge) (rows : List Row) (row : Row) → ltb (length rows) (dueAfter m n t rows) ≡ true
+    → rowBelow q row ≡ false
+    → stepOf q (stateOf q m n t ch rows) (Sound row) ≡ withContext (stateOf q m n t ch rows) (refuseNext (contextOf q m n t rows) 3)
+unfolding stepOf stateOf contextOf takesRows due dueAfter takeParsed
+step-large q m n t ch rows row e large = rw (e, large)
 
 step-row : (q : ℕ) (m : Memory) (n t : ℕ) (ch : Challenge) (rows : List Row) (row : Row) → ltb (length rows) (dueAfter m n t rows) ≡ true
-    → Numbered q (Sound row) → Bounded n t rows
+    → rowBelow q row ≡ true → Bounded n t rows
     → stepOf q (stateOf q m n t ch rows) (Sound row)
     ≡ cond (eqb (rowFault q m n t rows row) 0) (passed q (stateOf q m n t ch rows) row)
     (withContext (stateOf q m n t ch rows) (refuseNext (contextOf q m n t rows) (rowFault q m n t rows row)))
@@ -138,10 +144,20 @@ line-surplus : (q : ℕ) (m : Memory) (n t : ℕ) (rows : List Row) (x : Parsed)
 unfolding lineFault
 line-surplus q m n t rows x e = rw e
 
-line-due : (q : ℕ) (m : Memory) (n t : ℕ) (rows : List Row) (x : Parsed) → ltb (length rows) (dueAfter m n t rows) ≡ true
-    → lineFault q m n t rows x ≡ parsedFault q m n t rows x
-unfolding lineFault
-line-due q m n t rows x e = rw e
+line-fault : (q : ℕ) (m : Memory) (n t : ℕ) (rows : List Row) (f : ℕ) → ltb (length rows) (dueAfter m n t rows) ≡ true
+    → lineFault q m n t rows (Fault f) ≡ cond (eqb f 3) 3 2
+unfolding lineFault parsedFault
+line-fault q m n t rows f e = rw e
+
+line-large : (q : ℕ) (m : Memory) (n t : ℕ) (rows : List Row) (row : Row) → ltb (length rows) (dueAfter m n t rows) ≡ true → rowBelow q row ≡ false
+    → lineFault q m n t rows (Sound row) ≡ 3
+unfolding lineFault parsedFault
+line-large q m n t rows row e large = rw (e, large)
+
+line-row : (q : ℕ) (m : Memory) (n t : ℕ) (rows : List Row) (row : Row) → ltb (length rows) (dueAfter m n t rows) ≡ true → rowBelow q row ≡ true
+    → lineFault q m n t rows (Sound row) ≡ rowFault q m n t rows row
+unfolding lineFault parsedFault
+line-row q m n t rows row e small = rw (e, small)
 
 -- a first fault is the refusal; a line without one leaves it to the rest
 unless-fault : (f l : ℕ) (rest : Refusal) (r : Report) → eqb f 0 ≡ false → unless (cond (eqb f 0) rest (refusal f l)) r ≡ refused f l
@@ -174,15 +190,15 @@ pub record Folds (q : ℕ) (m : Memory) (n t : ℕ) (ch : Challenge) (rows : Lis
 
 -- a row that passes leaves it to the rest
 fold-pass : (q : ℕ) (m : Memory) (n t : ℕ) (ch : Challenge) (rows : List Row) (row : Row) (xs : List Parsed)
-    → ltb (length rows) (dueAfter m n t rows) ≡ true → Numbered q (Sound row) → rowFault q m n t rows row ≡ 0 → Bounded n t rows
+    → ltb (length rows) (dueAfter m n t rows) ≡ true → rowBelow q row ≡ true → rowFault q m n t rows row ≡ 0 → Bounded n t rows
     → (Bounded n t (rows ++ row ∷ []) → Folds q m n t ch (rows ++ row ∷ []) xs)
     → Folds q m n t ch rows (Sound row ∷ xs)
-unfolding stepsOf parsedFault parsedRow rowsOf
+unfolding stepsOf parsedRow rowsOf
 fold-pass q m n t ch rows row xs e r z b rest = record {
   folds =
       ap (λ (s : State). reportOf (endOf (stepsOf q s xs))) taken
       ∙ (rest (bounded-next q m n t rows row passes b) .folds
-      ∙ sym (ap₂ unless (first-rest q m n t rows (Sound row) xs (line-due q m n t rows (Sound row) e ∙ z)) (ap (closing q m n t ch) (sym (append-assoc rows (row ∷ []) (rowsOf xs))))));
+      ∙ sym (ap₂ unless (first-rest q m n t rows (Sound row) xs (line-row q m n t rows row e r ∙ z)) (ap (closing q m n t ch) (sym (append-assoc rows (row ∷ []) (rowsOf xs))))));
 }
   where
     passes : Passes q m n t rows row
@@ -192,11 +208,11 @@ fold-pass q m n t ch rows row xs e r z b rest = record {
     taken = step-row q m n t ch rows row e r b ∙ (rw z (passed-state q m n t ch rows row (due-form passes) b))
 
 -- one line, and then the lines after it
-fold-line : (q : ℕ) (m : Memory) (n t : ℕ) (ch : Challenge) (rows : List Row) (x : Parsed) (xs : List Parsed) → Numbered q x → Bounded n t rows
+fold-line : (q : ℕ) (m : Memory) (n t : ℕ) (ch : Challenge) (rows : List Row) (x : Parsed) (xs : List Parsed) → Bounded n t rows
     → ((row : Row) → Bounded n t (rows ++ row ∷ []) → Folds q m n t ch (rows ++ row ∷ []) xs)
     → Folds q m n t ch rows (x ∷ xs)
-unfolding stepsOf parsedFault
-fold-line q m n t ch rows x xs r b rest = pick (ltb (length rows) (dueAfter m n t rows)) refl x r
+unfolding stepsOf
+fold-line q m n t ch rows x xs b rest = pick (ltb (length rows) (dueAfter m n t rows)) refl x
   where
     refuses : (y : Parsed) (f : ℕ)
         → stepOf q (stateOf q m n t ch rows) y ≡ withContext (stateOf q m n t ch rows) (refuseNext (contextOf q m n t rows) f)
@@ -207,36 +223,34 @@ fold-line q m n t ch rows x xs r b rest = pick (ltb (length rows) (dueAfter m n 
           ∙ (refused-line q m n t ch rows f xs b z ∙ sym (first-fault q m n t rows y xs _ f e z));
     }
 
-    take-row : (row : Row) → ltb (length rows) (dueAfter m n t rows) ≡ true → Numbered q (Sound row) → (z : Bool) → eqb (rowFault q m n t rows row) 0 ≡ z
+    take-row : (row : Row) → ltb (length rows) (dueAfter m n t rows) ≡ true → (s : Bool) → rowBelow q row ≡ s → (z : Bool) → eqb (rowFault q m n t rows row) 0 ≡ z
         → Folds q m n t ch rows (Sound row ∷ xs)
-    take-row row e r true z = fold-pass q m n t ch rows row xs e r (eqb-true _ 0 z) b (rest row)
-    take-row row e r false z =
-        refuses (Sound row) (rowFault q m n t rows row) (step-row q m n t ch rows row e r b ∙ rw z) (line-due q m n t rows (Sound row) e) z
+    take-row row e false r z g = refuses (Sound row) 3 (step-large q m n t ch rows row e r) (line-large q m n t rows row e r) refl
+    take-row row e true r true z = fold-pass q m n t ch rows row xs e r (eqb-true _ 0 z) b (rest row)
+    take-row row e true r false z =
+        refuses (Sound row) (rowFault q m n t rows row) (step-row q m n t ch rows row e r b ∙ rw z) (line-row q m n t rows row e r) z
 
-    pick : (d : Bool) → ltb (length rows) (dueAfter m n t rows) ≡ d → (y : Parsed) → Numbered q y
-        → Folds q m n t ch rows (y ∷ xs)
-    pick false e y ry = refuses y 7 (step-surplus q m n t ch rows y e) (line-surplus q m n t rows y e) refl
-    pick true e (Fault f) ry = refuses (Fault f) f (step-fault-line q m n t ch rows f e ry) (line-due q m n t rows (Fault f) e) (ne-eqb f 0 (fault-not-zero f ry))
-    pick true e (Sound row) ry = take-row row e ry (eqb (rowFault q m n t rows row) 0) refl
+    pick : (d : Bool) → ltb (length rows) (dueAfter m n t rows) ≡ d → (y : Parsed) → Folds q m n t ch rows (y ∷ xs)
+    pick false e y = refuses y 7 (step-surplus q m n t ch rows y e) (line-surplus q m n t rows y e) refl
+    pick true e (Fault f) = refuses (Fault f) (cond (eqb f 3) 3 2) (step-fault-line q m n t ch rows f e) (line-fault q m n t rows f e) (ne-eqb _ 0 (fault-not-zero f))
+    pick true e (Sound row) = take-row row e (rowBelow q row) refl (eqb (rowFault q m n t rows row) 0) refl
 
--- every list of lines
-pub fold-rows : (q : ℕ) (m : Memory) (n t : ℕ) (ch : Challenge) (rows : List Row) (xs : List Parsed) → AllNumbered q xs → Bounded n t rows
-    → Folds q m n t ch rows xs
+-- every list of what lines can read as
+fold-rows : (q : ℕ) (m : Memory) (n t : ℕ) (ch : Challenge) (rows : List Row) (xs : List Parsed) → Bounded n t rows → Folds q m n t ch rows xs
 unfolding stepsOf rowsOf
-fold-rows q m n t ch rows [] r b =
+fold-rows q m n t ch rows [] b =
     record { folds = end-of-rows q m n t ch rows b ∙ ap (λ (z : List Row). unless (firstFault q m n t rows []) (closing q m n t ch z)) (sym (append-nil rows)) }
-fold-rows q m n t ch rows (x ∷ xs) r b =
-    fold-line q m n t ch rows x xs (r .0) b (λ row. fold-rows q m n t ch (rows ++ row ∷ []) xs (r .1))
+fold-rows q m n t ch rows (x ∷ xs) b = fold-line q m n t ch rows x xs b (λ row. fold-rows q m n t ch (rows ++ row ∷ []) xs)
 
 -- of rows without a first fault the running products answer what the equations do
-unless-balance : (q : ℕ) (m : Memory) (n t : ℕ) (ch : Challenge) (xs : List Parsed) → 2 ≤ q → allowed m n t ≡ true → AllNumbered q xs
+unless-balance : (q : ℕ) (m : Memory) (n t : ℕ) (ch : Challenge) (xs : List Parsed) → 2 ≤ q → allowed m n t ≡ true
     → unless (firstFault q m n t [] xs) (closing q m n t ch (rowsOf xs)) ≡ rowsReport q m n t ch xs
 unfolding unless rowsReport
-unless-balance q m n t ch xs le a r = pick (eqb (firstFault q m n t [] xs .number) 0) refl
+unless-balance q m n t ch xs le a = pick (eqb (firstFault q m n t [] xs .number) 0) refl
   where
     pick : (b : Bool) → eqb (firstFault q m n t [] xs .number) 0 ≡ b
         → unless (firstFault q m n t [] xs) (closing q m n t ch (rowsOf xs)) ≡ rowsReport q m n t ch xs
-    pick true e = rw e (closing-is-balance q m n t ch (rowsOf xs) le a (complete-of-lines q m n t [] xs r (eqb-true _ 0 e)))
+    pick true e = rw e (closing-is-balance q m n t ch (rowsOf xs) le a (complete-of-lines q m n t [] xs (eqb-true _ 0 e)))
     pick false e = rw e
 
 -- a fresh state, where the values have no fault and where they have one
@@ -261,11 +275,10 @@ allowed-of-values q m n t ch e = pick (allBelow q (n ∷ t ∷ ch .r ∷ ch .a �
     pick true false z = absurd (omega arith)
     pick false b z = absurd (omega arith)
 
--- what lines read as, handed to the fresh state one by one
-fold-parsed : (q : ℕ) (m : Memory) (n t : ℕ) (ch : Challenge) (xs : List Parsed) → 2 ≤ q → AllNumbered q xs
-    → reportOf (endOf (stepsOf q (freshOf q m n t ch) xs)) ≡ valuesReport q m n t ch xs
+-- the steps report what the whole-file definition says
+pub fold-is-file : FoldIsFile
 unfolding valuesReport
-fold-parsed q m n t ch xs le r = pick (eqb (valuesFault q m n t ch) 0) refl
+fold-is-file q m n t ch xs le = pick (eqb (valuesFault q m n t ch) 0) refl
   where
     pick : (b : Bool) → eqb (valuesFault q m n t ch) 0 ≡ b → reportOf (endOf (stepsOf q (freshOf q m n t ch) xs)) ≡ valuesReport q m n t ch xs
     pick false e = report-of-values q m n t ch xs e ∙ rw e
@@ -273,13 +286,12 @@ fold-parsed q m n t ch xs le r = pick (eqb (valuesFault q m n t ch) 0) refl
         let z : valuesFault q m n t ch ≡ 0 = eqb-true (valuesFault q m n t ch) 0 e in
         let a = allowed-of-values q m n t ch z in
         ap (λ (s : State). reportOf (endOf (stepsOf q s xs))) (fresh-state q m n t ch z)
-        ∙ (fold-rows q m n t ch [] xs r (bounded-start m n t a) .folds ∙ (unless-balance q m n t ch xs le a r ∙ rw e))
+        ∙ (fold-rows q m n t ch [] xs (bounded-start m n t a) .folds ∙ (unless-balance q m n t ch xs le a ∙ rw e))
 
--- the steps report what the whole-file definition says
-pub fold-is-file : FoldIsFile
-fold-is-file q m n t ch lines le =
-    ap (λ (s : State). reportOf (endOf s)) (run-is-steps q (freshOf q m n t ch) lines)
-    ∙ fold-parsed q m n t ch (parseRows q lines) le (lines-numbered q lines)
+-- and so do lines, each read and handed on
+pub run-is-file : RunIsFile
+run-is-file q m n t ch lines le =
+    ap (λ (s : State). reportOf (endOf s)) (run-is-steps q (freshOf q m n t ch) lines) ∙ fold-is-file q m n t ch (parseRows q lines) le
 
 -- an answer is 0 where a fault is 0 and the answer after it is, and where both tests at the end pass
 zero-of-refused : (f l : ℕ) (r : Report) → eqb (cond (eqb f 0) r (refused f l) .answer) 0 ≡ true → (f ≡ 0) × (eqb (r .answer) 0 ≡ true)
@@ -305,7 +317,7 @@ zero-of-balance q m n t ch rows e = pick (rangeBalances q ch (fileLists q m n t 
 accepts-is-answer : (q : ℕ) (m : Memory) (n t : ℕ) (ch : Challenge) (lines : List Line) → 2 ≤ q
     → accepts q m n t lines ch ≡ eqb (valuesReport q m n t ch (parseRows q lines) .answer) 0
 unfolding accepts
-accepts-is-answer q m n t ch lines le = ap (λ (r : Report). eqb (r .answer) 0) (fold-is-file q m n t ch lines le)
+accepts-is-answer q m n t ch lines le = ap (λ (r : Report). eqb (r .answer) 0) (run-is-file q m n t ch lines le)
 
 -- it is 0 exactly where the equations hold
 holds-of-answer : (q : ℕ) (m : Memory) (n t : ℕ) (ch : Challenge) (lines : List Line)

@@ -16,7 +16,7 @@ use Rattle.memory.specs.declared.Memory.{Memory}
 use Rattle.memory.specs.declared.Memory.the-variants.{Ram, Rom, Set, Stack, Queue}
 use Rattle.memory.specs.declared.Op.the-variants.{Other}
 use Rattle.memory.specs.declared.Phase.{Phase}
-use Rattle.memory.specs.declared.Phase.the-variants.{Starting, Operating, Ending, Ranging, Over}
+use Rattle.memory.specs.declared.Phase.the-variants.{Starting, Operating, Ending, Ranging}
 use Rattle.memory.specs.declared.Row.{Row}
 use Rattle.memory.specs.declared.Parsed.{Parsed}
 use Rattle.memory.specs.declared.Parsed.the-variants.{Sound, Fault}
@@ -35,11 +35,12 @@ use Rattle.memory.proofs.RamComplete.{ram-complete, ram-range-complete}
 use Rattle.memory.proofs.StackComplete.{stack-balance, stack-range}
 use Rattle.memory.proofs.QueueComplete.{queue-balance}
 use Rattle.memory.proofs.Balance.{often-balances}
-use Rattle.memory.proofs.ReadRows.{both-pass}
+use Rattle.memory.proofs.ReadRows.{both-pass, lines-below}
+use Rattle.memory.proofs.Operations.{other-not-due}
 use Rattle.memory.proofs.Fold.{accepts-exactly-when}
 use Rattle.memory.proofs.Phases.{DueRows, Parts, parts-no-fault}
-use Rattle.memory.proofs.FillerRows.{FilledRows, advised-rows, DueInputs, Unrefused, no-refusal}
-use Rattle.memory.proofs.HonestRows.{honestOps, honestEnds, honestRanges, valuesOf, due-inputs, filled-parts, filled-lists}
+use Rattle.memory.proofs.FillerRows.{FilledRows, advised-rows, DueInputs, Unrefused, no-refusal, valuesOf}
+use Rattle.memory.proofs.HonestRows.{honestOps, honestEnds, honestRanges, due-inputs, filled-parts, filled-lists}
 
 -- lists whose records are equally often on both sides of each shuffle, and whose hashed elements are the same
 pub record Balancing (l : Lists) : Type 0 where
@@ -87,20 +88,7 @@ pub filled-balances : (q : ℕ) (m : Memory) (n t : ℕ) (inits ops : List Input
 filled-balances q m n t inits ops ch prime room size count u =
     balancing-balances q ch (fileLists q m n t (filledRows m t inits ops)) (filled-balancing q m n t inits ops prime room size count u)
 
--- Rows of the four phases have ops of document 01, so lines that read as them read as no fault.
-pub other-not-due : (m : Memory) (p : Phase) → opIn Other (opsDue m p) ≡ false
-unfolding opIn opsDue isOp opCode
-other-not-due m Starting = refl
-other-not-due Ram Operating = refl
-other-not-due Rom Operating = refl
-other-not-due Set Operating = refl
-other-not-due Stack Operating = refl
-other-not-due Queue Operating = refl
-other-not-due m Ending = refl
-other-not-due m Ranging = refl
-other-not-due m Over = refl
-
--- the rows of phases, one after the other
+-- Rows of the four phases have ops of document 01, so lines that read as them read as no fault: the rows of phases, one after the other
 abbrev DueSomewhere : Memory → List Row → Type 0
 DueSomewhere m [] = Unit {0}
 DueSomewhere m (row ∷ rows) = ((p : Phase) × (opIn (row .op) (opsDue m p) ≡ true)) × DueSomewhere m rows
@@ -125,11 +113,11 @@ due-sound m (Sound row ∷ xs) due = ap {B = List Parsed} (λ l. Sound row ∷ l
 due-sound m (Fault f ∷ xs) due = absurd (false≢true (sym (other-not-due m (due .0 .0)) ∙ due .0 .1))
 
 -- lines that read as the rows of the four phases meet no fault
-parts-lines : (q : ℕ) (m : Memory) (n t : ℕ) (lines : List Line) → Parts q m n t (rowsIn q lines) → firstFault q m n t [] (parseRows q lines) .number ≡ 0
+parts-lines : (q : ℕ) (m : Memory) (n t : ℕ) (lines : List Line) → 0 < q → Parts q m n t (rowsIn q lines) → firstFault q m n t [] (parseRows q lines) .number ≡ 0
 unfolding rowsIn refusal
-parts-lines q m n t lines p =
+parts-lines q m n t lines positive p =
     ap (λ (xs : List Parsed). firstFault q m n t [] xs .number) (due-sound m (parseRows q lines) (parts-due q m n t (rowsIn q lines) p))
-    ∙ ap (λ (f : Refusal). f .number) (parts-no-fault q m n t (rowsIn q lines) p)
+    ∙ ap (λ (f : Refusal). f .number) (parts-no-fault q m n t (rowsIn q lines) (lines-below q lines positive) p)
 
 -- rows whose advice is the filler's are the rows of the four phases, and their lists balance
 record Advice (q : ℕ) (m : Memory) (n t : ℕ) (rows : List Row) : Type 0 where
@@ -186,7 +174,7 @@ advised-holds q m n t lines prime room formed a ch elements =
     let balances = balancing-balances q ch (fileLists q m n t (rowsIn q lines)) (advice .balancing) in
     record {
       values = values-pass q m n t ch (fit .0) (fit .1) elements;
-      rows = parts-lines q m n t lines (advice .parts);
+      rows = parts-lines q m n t lines (omega arith) (advice .parts);
       range = balances .0;
       memory = balances .1;
     }

@@ -28,16 +28,16 @@ use Rattle.memory.specs.Honest.{Input, filledRows}
 use Rattle.memory.specs.Print.{numberText, rowsText, filledText, headerText}
 use Rattle.memory.specs.Step.{runOf, freshOf, endOf, reportOf}
 use Rattle.memory.specs.Statements.{Fillable, acceptance, HonestFileAccepted, HonestRunAccepted}
-use Rattle.memory.proofs.Fold.{fold-is-file}
+use Rattle.memory.proofs.Fold.{run-is-file}
 use Rattle.memory.proofs.Phases.{Parts, parts-no-fault}
 use Rattle.memory.proofs.Gates.{parts-gates}
 use Rattle.memory.proofs.Decimal.{tenDigits}
 use Rattle.memory.proofs.Lengths.{numbers-length}
 use Rattle.memory.proofs.RoundTrip.{above, line-first, joined, joined-fields, joined-above, numbers-back, numerals-back, numbers-line, allBelow-more, rows-round-trip}
-use Rattle.memory.proofs.FillerRows.{Unrefused, no-refusal}
-use Rattle.memory.proofs.HonestRows.{valuesOf, filled-parts}
+use Rattle.memory.proofs.FillerRows.{valuesOf, Unrefused, no-refusal}
+use Rattle.memory.proofs.HonestRows.{filled-parts}
 use Rattle.memory.proofs.HonestBalances.{filled-balances, values-pass}
-use Rattle.memory.proofs.FilledBelow.{filled-printable-rows}
+use Rattle.memory.proofs.FilledBelow.{filled-printable-rows, filled-below}
 use Rattle.memory.proofs.Demand.{sized-limit, allowed-sized}
 
 -- The names of the memories: their bytes are above the comma, they have at most 5, and a memory's name is that memory's.
@@ -184,7 +184,7 @@ module _ (q : ℕ) (m : Memory) (n t : ℕ) (inits ops : List Input) (ch : Chall
   unfolding valuesReport rowsReport balanceReport filled refusal
   filled-report pass =
       let balances = filled-balances q m n t inits ops ch prime room size count u in
-      rw (pass, parts-no-fault q m n t filled (filled-parts q m n t inits ops prime room size count u), rows-of-sound filled, balances .0, balances .1)
+      rw (pass, parts-no-fault q m n t filled (filled-below q m t inits ops room count u) (filled-parts q m n t inits ops prime room size count u), rows-of-sound filled, balances .0, balances .1)
 
   -- and their lines read as them
   filled-read : q ≤ tenDigits → parseRows q (linesOf (rowsText filled)) ≡ map Sound filled
@@ -248,7 +248,7 @@ module _ (m : Memory) (n t : ℕ) (inits ops : List Input) (ch : Challenge) (f :
   file-accepted = file-of-rows p m n t ch rows digits-enough values pass ∙ lines-accepted
 
   run-accepted : reportOf (endOf (runOf p (freshOf p m n t ch) (linesOf (rowsText rows)))) ≡ acceptance m n t rows
-  run-accepted = fold-is-file p m n t ch (linesOf (rowsText rows)) (field-prime .two) ∙ lines-accepted
+  run-accepted = run-is-file p m n t ch (linesOf (rowsText rows)) (field-prime .two) ∙ lines-accepted
 
 -- As bytes, behind the header.
 pub honest-file-accepted : HonestFileAccepted

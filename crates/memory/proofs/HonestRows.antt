@@ -36,7 +36,8 @@ use Rattle.memory.proofs.StackComplete.{stackRow, stackOps, stackFinalA
 use Rattle.memory.proofs.QueueComplete.{queueRow, queueOps, queueFinal, queueEnds, queue-filled, queue-length, queue-nonzero, queue-ends-due, queue-right-possible, queue-right-operations}
 use Rattle.memory.proofs.ReadRows.{both-pass, RowBelow, RowsBelow, lines-below, taken-below, dropped-below}
 use Rattle.memory.proofs.Phases.{DueRow, DueRows, Parts, only-op, formed-guard, due-ops, parts-inits, parts-ops, parts-lists, lines-parts, parts-no-fault}
-use Rattle.memory.proofs.FillerRows.{DueInput, DueInputs, Unrefused, unrefused-zero}
+use Rattle.memory.proofs.FillerRows.{DueInput, DueInputs, valuesOf, Unrefused, unrefused-zero}
+use Rattle.memory.proofs.FilledBelow.{filled-below}
 
 -- The rows that the honest prover's rules give after the init rows: operations, end rows, range rows.
 unfoldable pub honestOps : Memory → List ℕ → List Input → List Row
@@ -260,9 +261,6 @@ honest-inits-due q m [] due = tt
 honest-inits-due q m (i ∷ is) due = ((unfold bare filledRow in due .0 .1, due .0 .2), honest-inits-due q m is (due .1))
 
 -- Where the filler refuses nothing, its rows are the rows of the four phases.
-abbrev pub valuesOf : List Input → List ℕ
-valuesOf inits = map (λ i. i .value) inits
-
 pub filled-parts : (q : ℕ) (m : Memory) (n t : ℕ) (inits ops : List Input) → Prime q → t + 1 < q → length inits ≡ n → length ops ≡ t
     → Unrefused q m (valuesOf inits) inits ops
     → Parts q m n t (filledRows m t inits ops)
@@ -395,14 +393,18 @@ rowsTrace m n t inits ops = record {
 module _ (q : ℕ) (m : Memory) (n t : ℕ) (inits ops : List Row) (prime : Prime q) (room : t + 1 < q) (size : length inits ≡ n) (count : length ops ≡ t)
     (due : DueRows m Operating ops) (fit : allFit (start m (map (λ row. row .value) inits)) (map (operationOf m) ops) ≡ true)
     (u : Unrefused q m (map (λ row. row .value) inits) (map inputOf inits) (map inputOf ops)) where
+  unrefused : Unrefused q m (valuesOf (map inputOf inits)) (map inputOf inits) (map inputOf ops)
+  unrefused = subst (λ (vs : List ℕ). Unrefused q m vs (map inputOf inits) (map inputOf ops)) (sym (values-of-inputs inits)) u
+
   honestParts : Parts q m n t (filledRows m t (map inputOf inits) (map inputOf ops))
   honestParts =
-      filled-parts q m n t (map inputOf inits) (map inputOf ops) prime room (length-map inits inputOf ∙ size) (length-map ops inputOf ∙ count)
-      (subst (λ (vs : List ℕ). Unrefused q m vs (map inputOf inits) (map inputOf ops)) (sym (values-of-inputs inits)) u)
+      filled-parts q m n t (map inputOf inits) (map inputOf ops) prime room (length-map inits inputOf ∙ size) (length-map ops inputOf ∙ count) unrefused
 
   -- they meet no fault
   honest-complete : firstFault q m n t [] (map Sound (filledRows m t (map inputOf inits) (map inputOf ops))) ≡ refusal 0 0
-  honest-complete = parts-no-fault q m n t (filledRows m t (map inputOf inits) (map inputOf ops)) honestParts
+  honest-complete =
+      parts-no-fault q m n t (filledRows m t (map inputOf inits) (map inputOf ops))
+      (filled-below q m t (map inputOf inits) (map inputOf ops) room (length-map ops inputOf ∙ count) unrefused) honestParts
 
   -- they have the same trace
   honest-trace : traceOf m n t (filledRows m t (map inputOf inits) (map inputOf ops)) ≡ rowsTrace m n t inits ops

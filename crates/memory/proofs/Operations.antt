@@ -9,9 +9,11 @@ use native.Mathlib.Omega.{arith}
 use lib.Dec.{leb}
 use borrow.Author.Tests.{eqb-true, leb-true}
 use Rattle.memory.specs.declared.Memory.{Memory}
+use Rattle.memory.specs.declared.Memory.the-variants.{Ram, Rom, Set, Stack, Queue}
 use Rattle.memory.specs.declared.Op.{Op}
 use Rattle.memory.specs.declared.Op.the-variants.{Init, Access, Look, Member, Push, Pop, Enqueue, Dequeue, End, Range, Other}
-use Rattle.memory.specs.declared.Phase.the-variants.{Operating}
+use Rattle.memory.specs.declared.Phase.{Phase}
+use Rattle.memory.specs.declared.Phase.the-variants.{Starting, Operating, Ending, Ranging, Over}
 use Rattle.memory.specs.declared.Row.{Row}
 use Rattle.memory.specs.Names.{opCode, isOp}
 use Rattle.memory.specs.Rows.{opsDue, opIn}
@@ -74,6 +76,19 @@ not-among os x y none due = go (isOp x y) refl
     go : (b : Bool) → isOp x y ≡ b → b ≡ false
     go true e = absurd (false≢true (sym none ∙ (ap (λ (k : Op). opIn k os) (sym (isOp-true x y e)) ∙ due)))
     go false e = refl
+
+-- no phase has an op that document 01 does not name
+pub other-not-due : (m : Memory) (p : Phase) → opIn Other (opsDue m p) ≡ false
+unfolding opIn opsDue isOp opCode
+other-not-due m Starting = refl
+other-not-due Ram Operating = refl
+other-not-due Rom Operating = refl
+other-not-due Set Operating = refl
+other-not-due Stack Operating = refl
+other-not-due Queue Operating = refl
+other-not-due m Ending = refl
+other-not-due m Ranging = refl
+other-not-due m Over = refl
 
 -- a guard of at most 1 is 0 or 1
 guard-cases : (P : ℕ → Type 0) → P 1 → P 0 → (g : ℕ) → g ≤ 1 → P g

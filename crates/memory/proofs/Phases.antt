@@ -24,12 +24,12 @@ use Rattle.memory.specs.declared.Parsed.{Parsed}
 use Rattle.memory.specs.declared.Parsed.the-variants.{Sound, Fault}
 use Rattle.memory.specs.Bytes.{Line}
 use Rattle.memory.specs.Names.{opCode, isOp}
-use Rattle.memory.specs.Rows.{raiseBy, lowerBy, raised, lowered, endsDue, rangesDue, phaseAt, opsDue, opIn, formed, depthFactor, depthProduct, sunk, dueAfter, phaseAfter, rowFault, parsedFault, lineFault}
+use Rattle.memory.specs.Rows.{raiseBy, lowerBy, raised, lowered, endsDue, rangesDue, phaseAt, opsDue, opIn, formed, rowBelow, depthFactor, depthProduct, sunk, dueAfter, phaseAfter, rowFault, parsedFault, lineFault}
 use Rattle.memory.specs.Equations.{listsOf, initRows, operationRows, endRows, rangeRows, fileLists}
 use Rattle.memory.specs.File.{parsedRow, rowsOf, parseRows, Refusal, refusal, firstFault}
 use Rattle.memory.specs.Bound.{rowsIn}
 use Rattle.memory.proofs.Operations.{Ops, isOp-true}
-use Rattle.memory.proofs.ReadRows.{both-pass, AllNumbered, fault-not-zero, lines-numbered, chosen-zero}
+use Rattle.memory.proofs.ReadRows.{both-pass, RowBelow, RowsBelow, fault-not-zero, below-row, split-below, chosen-zero}
 
 -- a row of a phase: its op is one of those due there, and the row has its form
 abbrev pub DueRow : Memory → Phase → Row → Type 0
@@ -344,22 +344,23 @@ module _ (q : ℕ) (m : Memory) (n t : ℕ) where
   calm-length rows row =
       ap (λ (k : ℕ). leb 1 t && (eqb k (n + t) && sunk q m (rows ++ row ∷ []))) (sym (length-append rows (row ∷ [])))
 
-  -- a line of a phase has no fault exactly when its row is one of the phase and 8 is not met
+  -- a line of a phase has no fault exactly when its row is one of the phase, its numbers are below q, and 8 is not met
   row-passes : (d : ℕ) (p : Phase) (rows : List Row) (row : Row) → At d p rows → length rows < till d p → lineFault q m n t rows (Sound row) ≡ 0
       → DueRow m p row × Calm (rows ++ row ∷ [])
   unfolding lineFault parsedFault rowFault
   row-passes d p rows row a h e =
-      let due = chosen-zero (ltb (length rows) (dueAfter m n t rows)) _ 7 (omega arith) e .1 in
+      let read = chosen-zero (ltb (length rows) (dueAfter m n t rows)) _ 7 (omega arith) e .1 in
+      let due = chosen-zero (rowBelow q row) _ 3 (omega arith) read .1 in
       let op = chosen-zero (opIn (row .op) (opsDue m (phaseAfter m n t rows))) _ 5 (omega arith) due in
       let form = chosen-zero (formed m row) _ 6 (omega arith) (op .1) in
       ((rw (at-phase d p rows a h) at (op .0), form .0), sym (calm-length rows row) ∙ fails-test _ (form .1))
 
   -- and the other way round
-  passing-row : (d : ℕ) (p : Phase) (rows : List Row) (row : Row) → At d p rows → length rows < till d p → DueRow m p row → Calm (rows ++ row ∷ [])
-      → lineFault q m n t rows (Sound row) ≡ 0
+  passing-row : (d : ℕ) (p : Phase) (rows : List Row) (row : Row) → At d p rows → length rows < till d p → RowBelow q row → DueRow m p row
+      → Calm (rows ++ row ∷ []) → lineFault q m n t rows (Sound row) ≡ 0
   unfolding lineFault parsedFault rowFault
-  passing-row d p rows row a h due calm =
-      rw (lt-ltb (length rows) (dueAfter m n t rows) (at-due d p rows a h), at-phase d p rows a h, due .0, due .1, calm-length rows row, calm)
+  passing-row d p rows row a h below due calm =
+      rw (lt-ltb (length rows) (dueAfter m n t rows) (at-due d p rows a h), below-row q row below, at-phase d p rows a h, due .0, due .1, calm-length rows row, calm)
 
   -- The rows of one phase, from the rows before them: those that pass, and what follows.
   record Passing (d : ℕ) (p : Phase) (rows : List Row) (j : ℕ) (ys : List Row) : Type 0 where
@@ -451,13 +452,13 @@ module _ (q : ℕ) (m : Memory) (n t : ℕ) where
   calm-first d p rows row (x ∷ part) a h calm = calm-inside d p rows row a (omega arith)
 
   -- the rows of a phase pass
-  passed-over : (d : ℕ) (p : Phase) (rows part rest : List Row) → At d p rows → length rows + length part ≤ till d p → DueRows m p part
+  passed-over : (d : ℕ) (p : Phase) (rows part rest : List Row) → At d p rows → length rows + length part ≤ till d p → RowsBelow q part → DueRows m p part
       → Calm (rows ++ part) → firstFault q m n t rows (map Sound (part ++ rest)) ≡ firstFault q m n t (rows ++ part) (map Sound rest)
   unfolding firstFault parsedRow
-  passed-over d p rows [] rest a h due calm = ap (λ (r : List Row). firstFault q m n t r (map Sound rest)) (sym (append-nil rows))
-  passed-over d p rows (row ∷ part) rest a h due calm =
-      rw (passing-row d p rows row a (omega arith) (due .0) (calm-first d p rows row part a h calm))
-      (passed-over d p (rows ++ row ∷ []) part rest (at-step d p rows row (due .0 .0) a) (omega (arith, length-append rows (row ∷ []))) (due .1)
+  passed-over d p rows [] rest a h below due calm = ap (λ (r : List Row). firstFault q m n t r (map Sound rest)) (sym (append-nil rows))
+  passed-over d p rows (row ∷ part) rest a h below due calm =
+      rw (passing-row d p rows row a (omega arith) (below .0) (due .0) (calm-first d p rows row part a h calm))
+      (passed-over d p (rows ++ row ∷ []) part rest (at-step d p rows row (due .0 .0) a) (omega (arith, length-append rows (row ∷ []))) (below .1) (due .1)
       (subst Calm (sym (append-assoc rows (row ∷ []) part)) calm)
       ∙ ap (λ (r : List Row). firstFault q m n t r (map Sound rest)) (append-assoc rows (row ∷ []) part))
 
@@ -562,10 +563,10 @@ module _ (q : ℕ) (m : Memory) (n t : ℕ) where
 
   -- the range rows are the last ones due
   ranges-no-fault : (d : ℕ) (rows ranges : List Row) → length rows ≡ n + t + d → endsAfter rows ≡ d → Calm rows → length ranges ≡ rangesDue m t
-      → DueRows m Ranging ranges → firstFault q m n t rows (map Sound ranges) ≡ refusal 0 0
-  ranges-no-fault d rows ranges long ends calm ages due =
+      → RowsBelow q ranges → DueRows m Ranging ranges → firstFault q m n t rows (map Sound ranges) ≡ refusal 0 0
+  ranges-no-fault d rows ranges long ends calm ages below due =
       ap (λ (l : List Row). firstFault q m n t rows (map Sound l)) (sym (append-nil ranges))
-      ∙ (passed-over d Ranging rows ranges [] a (omega (arith, long, ages)) due (calm-late rows ranges (omega (arith, long)) calm)
+      ∙ (passed-over d Ranging rows ranges [] a (omega (arith, long, ages)) below due (calm-late rows ranges (omega (arith, long)) calm)
       ∙ nothing-missing (at-through d Ranging rows ranges due a .1))
     where
       a : At d Ranging rows
@@ -578,37 +579,40 @@ module _ (q : ℕ) (m : Memory) (n t : ℕ) where
 
   -- after the operations, the end rows and the range rows are due
   closing-no-fault : (rows ends ranges : List Row) → length rows ≡ n + t → Calm rows → length ends ≡ endsAfter rows → length ranges ≡ rangesDue m t
-      → DueRows m Ending ends → DueRows m Ranging ranges → firstFault q m n t rows (map Sound (ends ++ ranges)) ≡ refusal 0 0
-  closing-no-fault rows ends ranges long calm depth ages ending ranging =
+      → RowsBelow q (ends ++ ranges) → DueRows m Ending ends → DueRows m Ranging ranges → firstFault q m n t rows (map Sound (ends ++ ranges)) ≡ refusal 0 0
+  closing-no-fault rows ends ranges long calm depth ages both ending ranging =
+      let below = split-below q ends ranges both in
       let kept = calm-late rows ends (omega (arith, long)) calm in
       let a : At (endsAfter rows) Ending rows = (omega (arith, long), refl) in
-      passed-over (endsAfter rows) Ending rows ends ranges a (omega (arith, long, depth)) ending kept
-      ∙ ranges-no-fault (endsAfter rows) (rows ++ ends) ranges (omega (arith, length-append rows ends, long, depth)) (at-through (endsAfter rows) Ending rows ends ending a .1) kept ages ranging
+      passed-over (endsAfter rows) Ending rows ends ranges a (omega (arith, long, depth)) (below .0) ending kept
+      ∙ ranges-no-fault (endsAfter rows) (rows ++ ends) ranges (omega (arith, length-append rows ends, long, depth)) (at-through (endsAfter rows) Ending rows ends ending a .1) kept ages (below .1) ranging
 
-  -- the rows of the four phases meet no fault
-  pub parts-no-fault : (rows : List Row) → Parts q m n t rows → firstFault q m n t [] (map Sound rows) ≡ refusal 0 0
-  parts-no-fault rows p =
+  -- the rows of the four phases meet no fault, where their numbers are below q
+  pub parts-no-fault : (rows : List Row) → RowsBelow q rows → Parts q m n t rows → firstFault q m n t [] (map Sound rows) ≡ refusal 0 0
+  parts-no-fault rows all p =
+      let starts = split-below q (p .inits) (p .ops ++ (p .ends ++ p .ranges)) (subst (RowsBelow q) (p .whole) all) in
+      let operates = split-below q (p .ops) (p .ends ++ p .ranges) (starts .1) in
       let calm = afloat-calm (p .inits) (p .ops) (p .count) (p .starting) (p .afloat) in
       ap (λ (l : List Row). firstFault q m n t [] (map Sound l)) (p .whole)
-      ∙ (passed-over 0 Starting [] (p .inits) (p .ops ++ (p .ends ++ p .ranges)) tt (omega (arith, p .size)) (p .starting) (calm-early (p .inits) (omega (arith, p .size)))
-      ∙ (passed-over 0 Operating (p .inits) (p .ops) (p .ends ++ p .ranges) (omega (arith, p .size)) (omega (arith, p .size, p .count)) (p .operating) calm
-      ∙ closing-no-fault (p .inits ++ p .ops) (p .ends) (p .ranges) (omega (arith, length-append (p .inits) (p .ops), p .size, p .count)) calm (p .depth ∙ sym (ends-by-ops (p .inits) (p .ops) (p .starting))) (p .ages) (p .ending) (p .ranging)))
+      ∙ (passed-over 0 Starting [] (p .inits) (p .ops ++ (p .ends ++ p .ranges)) tt (omega (arith, p .size)) (starts .0) (p .starting) (calm-early (p .inits) (omega (arith, p .size)))
+      ∙ (passed-over 0 Operating (p .inits) (p .ops) (p .ends ++ p .ranges) (omega (arith, p .size)) (omega (arith, p .size, p .count)) (operates .0) (p .operating) calm
+      ∙ closing-no-fault (p .inits ++ p .ops) (p .ends) (p .ranges) (omega (arith, length-append (p .inits) (p .ops), p .size, p .count)) calm (p .depth ∙ sym (ends-by-ops (p .inits) (p .ops) (p .starting))) (p .ages) (operates .1) (p .ending) (p .ranging)))
 
 -- A list of lines that meets no fault reads as rows, one for each line.
-pub no-fault-sound : (q : ℕ) (m : Memory) (n t : ℕ) (before : List Row) (xs : List Parsed) → AllNumbered q xs → firstFault q m n t before xs .number ≡ 0
+pub no-fault-sound : (q : ℕ) (m : Memory) (n t : ℕ) (before : List Row) (xs : List Parsed) → firstFault q m n t before xs .number ≡ 0
     → xs ≡ map Sound (rowsOf xs)
 unfolding rowsOf parsedRow
-no-fault-sound q m n t before [] numbered e = refl
-no-fault-sound q m n t before (Sound row ∷ xs) numbered e =
-    ap {B = List Parsed} (λ l. Sound row ∷ l) (no-fault-sound q m n t (before ++ row ∷ []) xs (numbered .1) (no-fault-step q m n t before (Sound row) xs e .1))
-no-fault-sound q m n t before (Fault f ∷ xs) numbered e =
-    absurd (fault-not-zero f (numbered .0) (unfold lineFault parsedFault in chosen-zero (ltb (length before) (dueAfter m n t before)) f 7 (omega arith) (no-fault-step q m n t before (Fault f) xs e .0) .1))
+no-fault-sound q m n t before [] e = refl
+no-fault-sound q m n t before (Sound row ∷ xs) e =
+    ap {B = List Parsed} (λ l. Sound row ∷ l) (no-fault-sound q m n t (before ++ row ∷ []) xs (no-fault-step q m n t before (Sound row) xs e .1))
+no-fault-sound q m n t before (Fault f ∷ xs) e =
+    absurd (fault-not-zero f (unfold lineFault parsedFault in chosen-zero (ltb (length before) (dueAfter m n t before)) (cond (eqb f 3) 3 2) 7 (omega arith) (no-fault-step q m n t before (Fault f) xs e .0) .1))
 
 -- the same of a list of lines
 pub lines-sound : (q : ℕ) (m : Memory) (n t : ℕ) (lines : List Line) → firstFault q m n t [] (parseRows q lines) .number ≡ 0
     → parseRows q lines ≡ map Sound (rowsIn q lines)
 unfolding rowsIn
-lines-sound q m n t lines e = no-fault-sound q m n t [] (parseRows q lines) (lines-numbered q lines) e
+lines-sound q m n t lines e = no-fault-sound q m n t [] (parseRows q lines) e
 
 -- and its rows are those of the four phases
 pub lines-parts : (q : ℕ) (m : Memory) (n t : ℕ) (lines : List Line) → firstFault q m n t [] (parseRows q lines) .number ≡ 0 → Parts q m n t (rowsIn q lines)

@@ -15,11 +15,11 @@ use Rattle.memory.specs.declared.Phase.the-variants.{Over}
 use Rattle.memory.specs.declared.Row.{Row}
 use Rattle.memory.specs.declared.Parsed.{Parsed}
 use Rattle.memory.specs.declared.Parsed.the-variants.{Sound, Fault}
-use Rattle.memory.specs.Rows.{raised, lowered, endsDue, rangesDue, phaseAt, opsDue, opIn, dueAfter, phaseAfter, parsedFault, lineFault}
+use Rattle.memory.specs.Rows.{raised, lowered, endsDue, rangesDue, phaseAt, opsDue, opIn, rowBelow, dueAfter, phaseAfter, rowFault, parsedFault, lineFault}
 use Rattle.memory.specs.File.{parsedRow, rowsOf, Refusal, refusal, firstFault}
 use Rattle.memory.proofs.Counted.{length-snoc, raised-snoc, lowered-snoc}
 use Rattle.memory.proofs.Due.{Passes, due-op, quiet-after, op-of-none}
-use Rattle.memory.proofs.ReadRows.{Numbered, AllNumbered, fault-not-zero}
+use Rattle.memory.proofs.ReadRows.{fault-not-zero, chosen-zero}
 
 -- every row of a list has a property, after those before it
 abbrev pub Each : (List Row → Row → Type 0) → List Row → List Row → Type 0
@@ -38,16 +38,13 @@ pub record Complete (q : ℕ) (m : Memory) (n t : ℕ) (past rows : List Row) : 
   pub whole : dueAfter m n t (past ++ rows) ≤ length (past ++ rows)
 
 -- a line that is not at fault is due and reads as a row
-passes-of-line : (q : ℕ) (m : Memory) (n t : ℕ) (past : List Row) (x : Parsed) → Numbered q x → lineFault q m n t past x ≡ 0
-    → Passes q m n t past (parsedRow x)
+passes-of-line : (q : ℕ) (m : Memory) (n t : ℕ) (past : List Row) (x : Parsed) → lineFault q m n t past x ≡ 0 → Passes q m n t past (parsedRow x)
 unfolding lineFault parsedFault parsedRow
-passes-of-line q m n t past x r e = pick (ltb (length past) (dueAfter m n t past)) refl x r e
-  where
-    pick : (b : Bool) → ltb (length past) (dueAfter m n t past) ≡ b → (y : Parsed) → Numbered q y → lineFault q m n t past y ≡ 0
-        → Passes q m n t past (parsedRow y)
-    pick false d y ry z = absurd (omega (arith, rw d at z))
-    pick true d (Fault f) ry z = absurd (fault-not-zero f ry (rw d at z))
-    pick true d (Sound row) ry z = record { due = d; fault = rw d at z }
+passes-of-line q m n t past (Fault f) e =
+    absurd (fault-not-zero f (chosen-zero (ltb (length past) (dueAfter m n t past)) (cond (eqb f 3) 3 2) 7 (omega arith) e .1))
+passes-of-line q m n t past (Sound row) e =
+    let here = chosen-zero (ltb (length past) (dueAfter m n t past)) (cond (rowBelow q row) (rowFault q m n t past row) 3) 7 (omega arith) e in
+    record { due = here .0; fault = chosen-zero (rowBelow q row) (rowFault q m n t past row) 3 (omega arith) (here .1) .1 }
 
 -- where the first fault is none, no row is missing, a line has none, and neither has the rest
 none-missing : (b : Bool) (l : ℕ) → cond b (refusal 7 l) (refusal 0 0) .number ≡ 0 → b ≡ false
@@ -64,20 +61,20 @@ none-first f l rest e = pick (eqb f 0) refl
     pick false z = absurd (eqb-false f 0 z (rw z at e))
 
 -- lines without a first fault are complete
-pub complete-of-lines : (q : ℕ) (m : Memory) (n t : ℕ) (past : List Row) (xs : List Parsed) → AllNumbered q xs → firstFault q m n t past xs .number ≡ 0
+pub complete-of-lines : (q : ℕ) (m : Memory) (n t : ℕ) (past : List Row) (xs : List Parsed) → firstFault q m n t past xs .number ≡ 0
     → Complete q m n t past (rowsOf xs)
 unfolding firstFault rowsOf
-complete-of-lines q m n t past [] r e = record {
+complete-of-lines q m n t past [] e = record {
   each = tt;
   whole =
       subst (λ (z : List Row). dueAfter m n t z ≤ length z) (sym (append-nil past))
       (ltb-false (length past) (dueAfter m n t past) (none-missing (ltb (length past) (dueAfter m n t past)) (length past + 4) e));
 }
-complete-of-lines q m n t past (x ∷ xs) r e =
+complete-of-lines q m n t past (x ∷ xs) e =
     let first = none-first (lineFault q m n t past x) (length past + 4) (firstFault q m n t (past ++ parsedRow x ∷ []) xs) e in
-    let rest : Complete q m n t (past ++ parsedRow x ∷ []) (rowsOf xs) = complete-of-lines q m n t (past ++ parsedRow x ∷ []) xs (r .1) (first .1) in
+    let rest : Complete q m n t (past ++ parsedRow x ∷ []) (rowsOf xs) = complete-of-lines q m n t (past ++ parsedRow x ∷ []) xs (first .1) in
     record {
-      each = (passes-of-line q m n t past x (r .0) (first .0), rest .each);
+      each = (passes-of-line q m n t past x (first .0), rest .each);
       whole = subst (λ (z : List Row). dueAfter m n t z ≤ length z) (append-assoc past (parsedRow x ∷ []) (rowsOf xs)) (rest .whole);
     }
 

@@ -1,7 +1,7 @@
 -- Every statement of this crate is proved.
 -- Assumes nothing.
 use Rattle.memory.specs.Promises.{Promises}
-use Rattle.memory.proofs.Fold.{fold-is-file, fixed-state, ended-state, accepts-exactly-when}
+use Rattle.memory.proofs.Fold.{fold-is-file, run-is-file, fixed-state, ended-state, accepts-exactly-when}
 use Rattle.memory.proofs.Gates.{gates-by-formula}
 use Rattle.memory.proofs.Factors.{factors-counted, hashes-counted}
 use Rattle.memory.proofs.Demand.{demand-at, demand-three}
@@ -17,6 +17,7 @@ use Rattle.memory.proofs.Cases.{cases-hold, ram-products}
 pub promises : Promises
 promises = record {
   fold = fold-is-file;
+  run = run-is-file;
   fixed = fixed-state;
   ended = ended-state;
   accepts = accepts-exactly-when;

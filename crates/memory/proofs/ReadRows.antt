@@ -1,14 +1,14 @@
--- What lines read as: every number of a row that a line reads as is below q, and a line that reads as no row has the fault 2 or 3.
+-- What lines read as: every number of a row that a line reads as is below q.
 -- Assumes nothing.
 use Prim.Native.Nat.{ℕ, zero, suc, _<_}
 use mathlib.Core.Path.{_≡_, refl, _∙_, ap}
 use mathlib.Core.Logic.{_≢_}
 use mathlib.Core.Bool.{Bool, true, false, _&&_, cond, false≢true}
-use mathlib.Core.List.{List, [], _∷_}
+use mathlib.Core.List.{List, [], _∷_, _++_}
 use native.Mathlib.Omega.{arith}
 use lib.Dec.{eqb, ltb}
 use lib.ListN.{length, getD, take, drop, length-drop}
-use borrow.Author.Tests.{eqb-true, ltb-true}
+use borrow.Author.Tests.{eqb-true, ltb-true, lt-ltb}
 use Rattle.memory.specs.declared.Row.{Row}
 use Rattle.memory.specs.declared.Parsed.{Parsed}
 use Rattle.memory.specs.declared.Parsed.the-variants.{Sound, Fault}
@@ -35,19 +35,14 @@ pub both-pass : (a b : Bool) → (a && b) ≡ true → (a ≡ true) × (b ≡ tr
 both-pass true b e = (refl, e)
 both-pass false b e = absurd (false≢true e)
 
--- what a line can read as: a row whose numbers are below q, or one of the faults 2 and 3
-abbrev pub Numbered : ℕ → Parsed → Type 0
+-- what a line can read as: a row whose numbers are below q, or a fault
+abbrev Numbered : ℕ → Parsed → Type 0
 Numbered q (Sound row) = rowBelow q row ≡ true
-Numbered q (Fault f) = cond (eqb f 3) 3 2 ≡ f
+Numbered q (Fault f) = Unit {0}
 
--- the same of a list
-abbrev pub AllNumbered : ℕ → List Parsed → Type 0
-AllNumbered q [] = Unit {0}
-AllNumbered q (x ∷ xs) = Numbered q x × AllNumbered q xs
-
--- such a fault is not 0
-pub fault-not-zero : (f : ℕ) → cond (eqb f 3) 3 2 ≡ f → f ≢ 0
-fault-not-zero f e z = pick (eqb f 3) (e ∙ z)
+-- the fault of a line that reads as no row is not 0
+pub fault-not-zero : (f : ℕ) → _≢_ {A = ℕ} (cond (eqb f 3) 3 2) 0
+fault-not-zero f e = pick (eqb f 3) e
   where
     pick : (b : Bool) → _≡_ {A = ℕ} (cond b 3 2) 0 → ⊥
     pick true h = omega arith
@@ -73,8 +68,8 @@ fields-numbered q fs seven =
     either-branch (Numbered q) (numerals (drop 1 fs)) _ (Fault 2)
     (λ numeral. either-branch (Numbered q) (allBelow q ns) _ (Fault 3)
     (λ below. simp (at 0 (omega arith) below, at 1 (omega arith) below, at 2 (omega arith) below, at 3 (omega arith) below, at 4 (omega arith) below, at 5 (omega arith) below))
-    refl)
-    refl
+    tt)
+    tt
   where
     ns : List ℕ
     ns = numbers (drop 1 fs)
@@ -88,14 +83,13 @@ unfolding parseRow
 line-numbered q line =
     let fs : List (List ℕ) = fields (line .text) in
     either-branch (Numbered q) (fitting line) _ (Fault 2)
-    (λ fit. either-branch (Numbered q) (eqb (length fs) 7) _ (Fault 2) (λ seven. fields-numbered q fs (eqb-true (length fs) 7 seven)) refl)
-    refl
+    (λ fit. either-branch (Numbered q) (eqb (length fs) 7) _ (Fault 2) (λ seven. fields-numbered q fs (eqb-true (length fs) 7 seven)) tt)
+    tt
 
--- the numbers of a row that a line can read as; the row of a line that reads as none has only zeros
-numbered-below : (q : ℕ) (x : Parsed) → 0 < q → Numbered q x → RowBelow q (parsedRow x)
-unfolding parsedRow noRow rowBelow allBelow
-numbered-below q (Fault f) positive h = (positive, positive, positive, positive, positive, positive)
-numbered-below q (Sound row) positive h =
+-- the test of a row's numbers, where it passes
+pub row-below : (q : ℕ) (row : Row) → rowBelow q row ≡ true → RowBelow q row
+unfolding rowBelow allBelow
+row-below q row h =
     let g = both-pass (ltb (row .guard) q) _ h in
     let a = both-pass (ltb (row .addr) q) _ (g .1) in
     let v = both-pass (ltb (row .value) q) _ (a .1) in
@@ -109,6 +103,18 @@ numbered-below q (Sound row) positive h =
       ltb-true _ q (t .0),
       ltb-true _ q (n .0),
     )
+
+-- and the other way round
+pub below-row : (q : ℕ) (row : Row) → RowBelow q row → rowBelow q row ≡ true
+unfolding rowBelow allBelow
+below-row q row b =
+    rw (lt-ltb _ q (b .0), lt-ltb _ q (b .1), lt-ltb _ q (b .2), lt-ltb _ q (b .3), lt-ltb _ q (b .4), lt-ltb _ q (b .5))
+
+-- the numbers of a row that a line can read as; the row of a line that reads as none has only zeros
+numbered-below : (q : ℕ) (x : Parsed) → 0 < q → Numbered q x → RowBelow q (parsedRow x)
+unfolding parsedRow noRow
+numbered-below q (Fault f) positive h = (positive, positive, positive, positive, positive, positive)
+numbered-below q (Sound row) positive h = row-below q row h
 
 -- the rows of a list of lines
 pub lines-below : (q : ℕ) (lines : List Line) → 0 < q → RowsBelow q (rowsOf (parseRows q lines))
@@ -129,11 +135,10 @@ dropped-below q zero rows h = h
 dropped-below q (suc k) [] h = tt
 dropped-below q (suc k) (row ∷ rows) h = dropped-below q k rows (h .1)
 
--- what a list of lines reads as
-pub lines-numbered : (q : ℕ) (lines : List Line) → AllNumbered q (parseRows q lines)
-unfolding parseRows
-lines-numbered q [] = tt
-lines-numbered q (line ∷ lines) = (line-numbered q line, lines-numbered q lines)
+-- both parts of a list of such rows
+pub split-below : (q : ℕ) (xs ys : List Row) → RowsBelow q (xs ++ ys) → RowsBelow q xs × RowsBelow q ys
+split-below q [] ys h = (tt, h)
+split-below q (x ∷ xs) ys h = let rest = split-below q xs ys (h .1) in ((h .0, rest .0), rest .1)
 
 -- a choice whose value is 0 where the other branch is not
 pub chosen-zero : (b : Bool) (x y : ℕ) → y ≢ 0 → cond b x y ≡ 0 → (b ≡ true) × (x ≡ 0)

@@ -23,7 +23,7 @@ use Rattle.memory.specs.File.{Opening, opens, shut, refused, parseRows, 
 use Rattle.memory.specs.Step.{takesRows, refuseAt, rowOf, runOf, reportOf, freshContext, freshOf, refusedState, openedOf}
 use Rattle.memory.specs.Stream.{Reading, reading, unread, namesRead, rowNamesRead, lineOf, byteOf, bytesOf, lastLine, endReport, finishOf}
 use Rattle.memory.specs.Statements.{StreamCut, StreamIsFile}
-use Rattle.memory.proofs.Fold.{fold-is-file, fixed-state}
+use Rattle.memory.proofs.Fold.{run-is-file, fixed-state}
 
 -- pieces may be cut anywhere
 pub stream-cut : StreamCut
@@ -418,7 +418,7 @@ module _ (q : ℕ) (two : 2 ≤ q) where
   rows-report : (m : Memory) (n t : ℕ) (ch : Challenge) (lines : List Line)
       → endReport (linesRead q (reading 4 (freshOf q m n t ch) []) lines) ≡ valuesReport q m n t ch (parseRows q lines)
   unfolding endReport reading
-  rows-report m n t ch lines = rw (rows-read q (freshOf q m n t ch) lines) (fold-is-file q m n t ch lines two)
+  rows-report m n t ch lines = rw (rows-read q (freshOf q m n t ch) lines) (run-is-file q m n t ch lines two)
 
   -- the lines from line 3 on, after values without a fault, and after any value line
   fresh-names-report : (m : Memory) (n t : ℕ) (ch : Challenge) (lines : List Line) → eqb (valuesFault q m n t ch) 0 ≡ true

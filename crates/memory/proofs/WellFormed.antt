@@ -14,7 +14,7 @@ use Rattle.memory.specs.Rows.{raised, lowered, endsDue, rangesDue, sunk,
 use Rattle.memory.specs.Equations.{initRows, operationRows, endRows, rangeRows}
 use Rattle.memory.specs.File.{rowsOf, firstFault}
 use Rattle.memory.proofs.Operations.{Ops}
-use Rattle.memory.proofs.ReadRows.{RowsBelow, taken-below, dropped-below, AllNumbered}
+use Rattle.memory.proofs.ReadRows.{RowsBelow, taken-below, dropped-below}
 use Rattle.memory.proofs.Phases.{Parts, parts-raised, parts-inits, parts-ops, parts-ends, parts-ranges, parts-depth, parts-floats, due-ops, no-fault-sound, no-fault-parts}
 
 -- What is known of the rows of a file without fault
@@ -63,11 +63,11 @@ parts-well-formed q m n t rows p =
 
 -- the rows of a list of lines without fault
 pub no-fault-well-formed :
-    (q : ℕ) (m : Memory) (n t : ℕ) (xs : List Parsed) → AllNumbered q xs → firstFault q m n t [] xs .number ≡ 0
+    (q : ℕ) (m : Memory) (n t : ℕ) (xs : List Parsed) → firstFault q m n t [] xs .number ≡ 0
     → WellFormed q m n t (rowsOf xs)
-no-fault-well-formed q m n t xs numbered e =
+no-fault-well-formed q m n t xs e =
     parts-well-formed q m n t (rowsOf xs)
-    (no-fault-parts q m n t (rowsOf xs) (subst (λ (ys : List Parsed). firstFault q m n t [] ys .number ≡ 0) (no-fault-sound q m n t [] xs numbered e) e))
+    (no-fault-parts q m n t (rowsOf xs) (subst (λ (ys : List Parsed). firstFault q m n t [] ys .number ≡ 0) (no-fault-sound q m n t [] xs e) e))
 
 -- the parts of rows whose numbers are below q
 pub record PartsBelow (q : ℕ) (m : Memory) (n t : ℕ) (rows : List Row) : Type 0 where

@@ -1,10 +1,11 @@
 -- Every statement of this crate, as the fields of one record: a proof of it is a proof of each. (Promises: promises)
 -- Assumes nothing.
-use Rattle.memory.specs.Statements.{FoldIsFile, FixedState, EndedState, AcceptsExactlyWhen, GatesByFormula, FactorsCounted, HashesCounted, DemandAt, DemandThree, HonestRows, RefusedNotRight, StreamCut, StreamIsFile, HonestFileAccepted, HonestRunAccepted, FillingAccepted, FillStreamCut, FillStreamIsText, TestedRowsLate, FillTextShort}
+use Rattle.memory.specs.Statements.{FoldIsFile, RunIsFile, FixedState, EndedState, AcceptsExactlyWhen, GatesByFormula, FactorsCounted, HashesCounted, DemandAt, DemandThree, HonestRows, RefusedNotRight, StreamCut, StreamIsFile, HonestFileAccepted, HonestRunAccepted, FillingAccepted, FillStreamCut, FillStreamIsText, TestedRowsLate, FillTextShort}
 use Rattle.memory.specs.Cases.{CasesHold, RamProducts}
 
 pub record Promises : Type 0 where
   pub fold : FoldIsFile
+  pub run : RunIsFile
   pub fixed : FixedState
   pub ended : EndedState
   pub accepts : AcceptsExactlyWhen

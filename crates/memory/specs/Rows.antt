@@ -197,10 +197,11 @@ rowFault q m n t rows row =
     6)
     5
 
--- the fault of what a line reads as: "on one line, table order"
+-- the fault of what a line reads as, "on one line, table order": a row with a number of q or more is 3, before 5 and 6; where a line reads as no row, its
+-- fault is 3 or else 2
 unfoldable pub parsedFault : ℕ → Memory → ℕ → ℕ → List Row → Parsed → ℕ
-parsedFault q m n t rows (Sound row) = rowFault q m n t rows row
-parsedFault q m n t rows (Fault f) = f
+parsedFault q m n t rows (Sound row) = cond (rowBelow q row) (rowFault q m n t rows row) 3
+parsedFault q m n t rows (Fault f) = cond (eqb f 3) 3 2
 
 -- the fault of a line after the rows that have passed, or 0: "a surplus line is 7 without being read"
 unfoldable pub lineFault : ℕ → Memory → ℕ → ℕ → List Row → Parsed → ℕ

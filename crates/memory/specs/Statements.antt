@@ -23,7 +23,7 @@ use Rattle.memory.specs.Gates.{inputsOf, multsOf, factorsOf, hashesOf, s
 use Rattle.memory.specs.File.{firstFault, refusal, parseRows, valuesFault, valuesReport, fileReport}
 use Rattle.memory.specs.Plain.{right, traceOf}
 use Rattle.memory.specs.Honest.{Input, inputOf, filledRows}
-use Rattle.memory.specs.Step.{takesRows, stepOf, rowOf, endOf, runOf, freshOf, reportOf}
+use Rattle.memory.specs.Step.{takesRows, stepOf, endOf, stepsOf, runOf, freshOf, reportOf}
 use Rattle.memory.specs.Filler.{rowsFault}
 use Rattle.memory.specs.Print.{rowsText, refusalText, filledText, headerText}
 use Rattle.memory.specs.FillFile.{job, parseJob, parseInput, inputsOfLines, fillLimit, inputsFault, fillText}
@@ -32,10 +32,16 @@ use Rattle.memory.specs.FillStream.{Gathered, lineTaken, unfilled, fillE
 use Rattle.memory.specs.Stream.{Reading, unread, bytesOf, finishOf}
 use Rattle.memory.specs.Bound.{accepts, challenges, malformed, degree, rowsIn, traceIn, Advised}
 
--- Fold: the value line's fresh state, advanced by any list of rows and then ended, answers what the whole-file definition says: answer, line, inputs,
--- multiplications. (Fold: fold-is-file)
+-- "Rows then come one call at a time, refused ones included, and last the end of file": the value line's fresh state, advanced by any list of what lines can
+-- read as and then ended, answers what the whole-file definition says: answer, line, inputs, multiplications. (Fold: fold-is-file)
 abbrev pub FoldIsFile : Type 0
 FoldIsFile =
+    (q : ℕ) (m : Memory) (n t : ℕ) (ch : Challenge) (xs : List Parsed) → 2 ≤ q
+    → reportOf (endOf (stepsOf q (freshOf q m n t ch) xs)) ≡ valuesReport q m n t ch xs
+
+-- The same of lines, each read and handed on. (Fold: run-is-file)
+abbrev pub RunIsFile : Type 0
+RunIsFile =
     (q : ℕ) (m : Memory) (n t : ℕ) (ch : Challenge) (lines : List Line) → 2 ≤ q
     → reportOf (endOf (runOf q (freshOf q m n t ch) lines)) ≡ valuesReport q m n t ch (parseRows q lines)
 
