@@ -95,6 +95,15 @@ malformed-not-accepted q m n t lines two bad ch =
     absurd (true≢false (sym bad ∙ holds-not-malformed q m n t ch lines holds)))
     (λ refused. refused)
 
+-- nor are rows that meet 8
+fault-not-accepted :
+    (q : ℕ) (m : Memory) (n t : ℕ) (lines : List Line) → 2 ≤ q → firstFault q m n t [] (parseRows q lines) .number ≡ 8
+    → (ch : Challenge) → accepts q m n t lines ch ≡ false
+fault-not-accepted q m n t lines two fault ch =
+    by-test (accepts q m n t lines ch)
+    (λ accepted. let holds = accepts-exactly-when q m n t ch lines two .0 accepted in absurd (omega (arith, fault, holds .rows)))
+    (λ refused. refused)
+
 -- a wrong trace is accepted by at most m · q ^ 3 challenges, whatever the advice
 pub wrong-trace-bound :
     (q : ℕ) (m : Memory) (n t : ℕ) (lines : List Line) → Prime q → 2 * t ≤ q → t + 1 < q → n ≤ q
@@ -125,6 +134,7 @@ wrong-trace-bound q m n t lines prime wide room small good wrong = go (ℕ-discr
 pub demand-at : DemandAt
 demand-at q m n t lines prime wide room small = record {
   incomplete = malformed-not-accepted q m n t lines (prime .two);
+  depth = fault-not-accepted q m n t lines (prime .two);
   wrong =
       λ good wrong. doubled (challenges q (accepts q m n t lines)) (degree m n t (rowsIn q lines)) (q ^ 3)
       (wrong-trace-bound q m n t lines prime wide room small good wrong);
@@ -137,6 +147,7 @@ demand-of-malformed :
     (q : ℕ) (m : Memory) (n t : ℕ) (lines : List Line) → 2 ≤ q → allowed m n t ≡ false → Demand q m n t lines
 demand-of-malformed q m n t lines two over = record {
   incomplete = malformed-not-accepted q m n t lines two;
+  depth = fault-not-accepted q m n t lines two;
   wrong = λ good. absurd (impossible good);
   sharp = λ good. absurd (impossible good);
   honest = λ good. absurd (impossible good);

@@ -1,9 +1,10 @@
 -- The multiplications that are counted for factors and for hash steps are those of the equations: one for each record of their lists and for each element of
--- their hashes, but for the range's public setup, and one for each push, pop, enqueue or dequeue that its guard skips.
+-- their hashes, but for the range's public setup, and one for each push, pop, enqueue or dequeue that its guard skips. Those for choices are one for each row that
+-- uses the guard column, those for depth steps one for each dequeue.
 -- Assumes nothing.
 use Prim.Native.Nat.{ℕ, zero, suc, _+_, _*_}
 use native.Mathlib.Omega.{arith}
-use mathlib.Core.Path.{_≡_, refl, _∙_, ap}
+use mathlib.Core.Path.{_≡_, refl, _∙_, ap, ap₂}
 use mathlib.Core.Bool.{true, false, _&&_, cond}
 use mathlib.Core.List.{List, [], _∷_, _++_, map}
 use lib.Dec.{eqb, leb}
@@ -12,16 +13,16 @@ use borrow.Author.Tests.{eqb-true}
 use Rattle.memory.specs.declared.Memory.{Memory}
 use Rattle.memory.specs.declared.Memory.the-variants.{Ram, Rom, Set, Stack, Queue}
 use Rattle.memory.specs.declared.Op.{Op}
-use Rattle.memory.specs.declared.Op.the-variants.{Access, Look, Member, Push, Pop, Enqueue, Dequeue}
+use Rattle.memory.specs.declared.Op.the-variants.{Init, Access, Look, Member, Push, Pop, Enqueue, Dequeue, End, Range, Other}
 use Rattle.memory.specs.declared.Phase.{Phase}
 use Rattle.memory.specs.declared.Phase.the-variants.{Starting, Operating, Ending, Ranging}
 use Rattle.memory.specs.declared.Row.{Row}
 use Rattle.memory.specs.Names.{opCode, isOp}
-use Rattle.memory.specs.Rows.{sized, raiseBy, lowerBy, endsDue, rangesDue, opsDue, opIn}
+use Rattle.memory.specs.Rows.{sized, raiseBy, lowerBy, endsDue, rangesDue, opsDue, opIn, columns, used}
 use Rattle.memory.specs.Equations.{Triple, Lookup, Lists, initWrites, lookRead, lookWrite, romEnds, setInit, memberRead, memberWrite, rangeSetup, rangeRead, rangeWrite, rangeEnds, accessRead, accessWrites, accessLookups, cellEnds, pushWrite, pushWrites, popRead, popReads, popLookup, popLookups, enqueues, dequeues, endOlds, shuffleLists, rangedLists, listsOf, fileLists}
-use Rattle.memory.specs.Gates.{costs, rowCosts, factorsOf, hashesOf, skippedWith}
+use Rattle.memory.specs.Gates.{costs, rowCosts, factorsOf, choicesOf, hashesOf, depthsOf, guarded, skippedWith, rowsWith}
 use Rattle.memory.specs.Bound.{rowsIn}
-use Rattle.memory.specs.Statements.{FactorsCounted, HashesCounted}
+use Rattle.memory.specs.Statements.{FactorsCounted, ChoicesCounted, HashesCounted, DepthsCounted}
 use Rattle.memory.proofs.Operations.{Ops, rowAt, row-cases, not-among}
 use Rattle.memory.proofs.Phases.{DueRows, Parts, due-ops, parts-lists, lines-parts}
 use Rattle.memory.proofs.Gates.{tally, oneOf, parts-only, stack-tally, queue-tally}
@@ -335,3 +336,51 @@ parts-hashes q Queue n t rows p = queue-hashes q n t rows p
 pub hashes-counted : HashesCounted
 unfolding elementsIn
 hashes-counted q m n t lines e = parts-hashes q m n t (rowsIn q lines) (lines-parts q m n t lines e)
+
+-- A choice for each row that uses the guard column,
+choice-of : (m : Memory) (o : Op) → rowCosts m o .choices ≡ cond (used m o .guard) 1 0
+unfolding rowCosts costs used columns
+choice-of m Init = refl
+choice-of m Access = refl
+choice-of m Look = refl
+choice-of m Member = refl
+choice-of m Push = refl
+choice-of m Pop = refl
+choice-of m Enqueue = refl
+choice-of m Dequeue = refl
+choice-of Ram End = refl
+choice-of Rom End = refl
+choice-of Set End = refl
+choice-of Stack End = refl
+choice-of Queue End = refl
+choice-of m Range = refl
+choice-of m Other = refl
+
+pub choices-counted : ChoicesCounted
+unfolding choicesOf guarded
+choices-counted m [] = refl
+choices-counted m (row ∷ rows) = ap₂ _+_ (choice-of m (row .op)) (choices-counted m rows)
+
+-- and a depth step for each dequeue.
+depth-of : (m : Memory) (o : Op) → rowCosts m o .depths ≡ cond (isOp o Dequeue) 1 0
+unfolding rowCosts costs isOp opCode
+depth-of m Init = refl
+depth-of m Access = refl
+depth-of m Look = refl
+depth-of m Member = refl
+depth-of m Push = refl
+depth-of m Pop = refl
+depth-of m Enqueue = refl
+depth-of m Dequeue = refl
+depth-of Ram End = refl
+depth-of Rom End = refl
+depth-of Set End = refl
+depth-of Stack End = refl
+depth-of Queue End = refl
+depth-of m Range = refl
+depth-of m Other = refl
+
+pub depths-counted : DepthsCounted
+unfolding depthsOf rowsWith
+depths-counted m [] = refl
+depths-counted m (row ∷ rows) = ap₂ _+_ (depth-of m (row .op)) (depths-counted m rows)

@@ -10,33 +10,37 @@ use mathlib.Core.List.{List, [], _∷_, _++_, map}
 use lib.Dec.{eqb, leb, ltb}
 use lib.ListN.{length, getD, take, drop, length-append, take-append-drop, length-drop}
 use lib.Seq.{length-take-le}
-use borrow.Author.Tests.{eqb-true, eqb-false, ltb-true, ltb-false}
+use borrow.Author.Tests.{eqb-true, eqb-false, leb-true, ltb-true, ltb-false}
 use Rattle.field.specs.Field.{p}
 use Rattle.memory.specs.declared.Memory.{Memory}
-use Rattle.memory.specs.Bytes.{Line, fitting, fields, numerals, numbers, allBelow, linesOf}
+use Rattle.memory.specs.declared.Op.{Op}
+use Rattle.memory.specs.declared.Phase.the-variants.{Starting, Operating}
+use Rattle.memory.specs.Bytes.{Line, fitting, same, fields, numerals, numbers, allBelow, linesOf}
 use Rattle.memory.specs.Names.{fillNames, inputNames, memoryNamed}
-use Rattle.memory.specs.Rows.{allowed}
+use Rattle.memory.specs.Rows.{allowed, opsDue, opIn, formed}
 use Rattle.memory.specs.File.{Refusal, refusal, namesFault, fileReport}
-use Rattle.memory.specs.Honest.{Input, filledRows}
-use Rattle.memory.specs.Filler.{Placed, rowsFault}
+use Rattle.memory.specs.Honest.{Input, bare, filledRows}
+use Rattle.memory.specs.Filler.{Placed, inputFault, rowsFault}
 use Rattle.memory.specs.Print.{refusalText, filledText, headerText}
 use Rattle.memory.specs.FillFile.{fillLimit, fillAllowed, Job, job, noJob, jobOf, jobOfFields, parseJob, InputLine, sound, faulty, inputOfFields, parseInput, inputLineFault, inputsFault, inputOfLine, inputsOfLines, runText, inputsText, jobText, jobLinesText, fillLinesText, fillText}
-use Rattle.memory.specs.Statements.{Fillable, FillAccepted, FillingAccepted}
+use Rattle.memory.specs.FillStream.{late}
+use Rattle.memory.specs.Statements.{Fillable, FillNumber, FillAccepted, FillingAccepted}
 use Rattle.memory.proofs.ReadRows.{both-pass, chosen-zero}
 use Rattle.memory.proofs.HonestLookups.{All}
 use Rattle.memory.proofs.FilledBelow.{decided}
 use Rattle.memory.proofs.HonestFile.{honest-file-accepted}
+use Rattle.memory.proofs.FillTested.{tested-rows-late}
 
 -- A value line reads as a size and count that are allowed, or as a fault.
 abbrev GoodJob : Job → Type 0
 GoodJob (job m n t) = allowed m n t ≡ true
-GoodJob (noJob f) = 1 ≤ f
+GoodJob (noJob f) = (1 ≤ f) × (f ≤ 7)
 
 good-job-of : (k : Option Memory) (n t : ℕ) → GoodJob (jobOf k n t)
 unfolding jobOf fillAllowed
-good-job-of none n t = omega arith
+good-job-of none n t = (omega arith, omega arith)
 good-job-of (some m) n t =
-    decided GoodJob (fillAllowed m n t) (λ e. both-pass (allowed m n t) (leb n fillLimit && leb t fillLimit) e .0) (omega arith)
+    decided GoodJob (fillAllowed m n t) (λ e. both-pass (allowed m n t) (leb n fillLimit && leb t fillLimit) e .0) (omega arith, omega arith)
 
 good-job : (q : ℕ) (line : Line) → GoodJob (parseJob q line)
 unfolding parseJob jobOfFields
@@ -46,15 +50,15 @@ good-job q line =
     (λ three. decided GoodJob (numerals (drop 1 (fields (line .text))))
     (λ all. decided GoodJob (allBelow q (numbers (drop 1 (fields (line .text)))))
     (λ below. good-job-of (memoryNamed (getD (fields (line .text)) 0 [])) _ _)
-    (omega arith))
-    (omega arith))
-    (omega arith))
-    (omega arith)
+    (omega arith, omega arith))
+    (omega arith, omega arith))
+    (omega arith, omega arith))
+    (omega arith, omega arith)
 
 -- A row line reads as a row, or as a fault.
 abbrev GoodLine : InputLine → Type 0
 GoodLine (sound i) = Unit {0}
-GoodLine (faulty f) = 1 ≤ f
+GoodLine (faulty f) = (1 ≤ f) × (f ≤ 7)
 
 good-line : (q : ℕ) (line : Line) → GoodLine (parseInput q line)
 unfolding parseInput inputOfFields
@@ -64,10 +68,10 @@ good-line q line =
     (λ four. decided GoodLine (numerals (drop 1 (fields (line .text))))
     (λ all. decided GoodLine (allBelow q (numbers (drop 1 (fields (line .text)))))
     (λ below. tt)
-    (omega arith))
-    (omega arith))
-    (omega arith))
-    (omega arith)
+    (omega arith, omega arith))
+    (omega arith, omega arith))
+    (omega arith, omega arith))
+    (omega arith, omega arith)
 
 good-lines : (q : ℕ) (lines : List Line) → All GoodLine (map (parseInput q) lines)
 good-lines q [] = tt
@@ -77,7 +81,7 @@ good-lines q (line ∷ lines) = (good-line q line, good-lines q lines)
 one-input : (q : ℕ) (m : Memory) (n k : ℕ) (x : InputLine) → GoodLine x → inputLineFault q m n k x ≡ 0 → length (inputOfLine x) ≡ 1
 unfolding inputLineFault inputOfLine
 one-input q m n k (sound i) good e = refl
-one-input q m n k (faulty f) good e = absurd (omega arith)
+one-input q m n k (faulty f) good e = absurd (omega (arith, good .0))
 
 -- the first fault of the lines
 none-refused : (b : Bool) (f l : ℕ) (rest : Refusal) → eqb f 0 ≡ b → cond b rest (refusal f l) .number ≡ 0 → (f ≡ 0) × (rest .number ≡ 0)
@@ -113,20 +117,60 @@ record Run (m : Memory) (n t : ℕ) (rows : List Input) (text : List ℕ) : Type
 record Refused (text : List ℕ) : Type 0 where
   number : ℕ
   line : ℕ
-  fault : 1 ≤ number
+  fault : FillNumber number
   printed : text ≡ refusalText number line
 
--- a refusal where a test on its number fails
-refused-by : (f l : ℕ) → eqb f 0 ≡ false → Refused (refusalText f l)
-refused-by f l test = record { number = f; line = l; fault = positive f (eqb-false f 0 test); printed = refl }
+-- a refusal where a test on its number fails: by a line,
+refused-by : (f l : ℕ) → f ≤ 7 → eqb f 0 ≡ false → Refused (refusalText f l)
+refused-by f l small test = record { number = f; line = l; fault = inl (positive f (eqb-false f 0 test), small); printed = refl }
   where
     positive : (k : ℕ) → (k ≡ 0 → ⊥) → 1 ≤ k
     positive k h = omega arith
 
+-- or after all lines
+refused-late : (f l : ℕ) → late f ≡ true → eqb f 0 ≡ false → Refused (refusalText f l)
+unfolding late
+refused-late f l after test =
+    let bounds = both-pass (leb 11 f) (leb f 13) (rw test at after) in
+    record { number = f; line = l; fault = inr (leb-true 11 f (bounds .0), leb-true f 13 (bounds .1)); printed = refl }
+
+-- the fault of a line is at most 7
+small-either : (b : Bool) (x y : ℕ) → x ≤ 7 → y ≤ 7 → cond b x y ≤ 7
+small-either b x y hx hy = decided (λ (k : ℕ). k ≤ 7) b (λ e. hx) hy
+
+small-names : (names : List ℕ) (line : Line) → namesFault names line ≤ 7
+unfolding namesFault
+small-names names line = small-either (same (line .text) names) _ 1 (small-either (line .ended) 0 2 (omega arith) (omega arith)) (omega arith)
+
+small-input : (q : ℕ) (m : Memory) (ops : List Op) (i : Input) → inputFault q m ops i ≤ 7
+unfolding inputFault
+small-input q m ops i =
+    small-either (allBelow q (i .guard ∷ i .addr ∷ i .value ∷ [])) _ 3
+    (small-either (opIn (i .op) ops) _ 5 (small-either (formed m (bare i)) 0 6 (omega arith) (omega arith)) (omega arith))
+    (omega arith)
+
+small-line : (q : ℕ) (m : Memory) (n k : ℕ) (x : InputLine) → GoodLine x → inputLineFault q m n k x ≤ 7
+unfolding inputLineFault
+small-line q m n k (sound i) good = small-input q m (opsDue m (cond (ltb k n) Starting Operating)) i
+small-line q m n k (faulty f) good = good .1
+
+small-first : (b : Bool) (f l : ℕ) (rest : Refusal) → f ≤ 7 → rest .number ≤ 7 → cond b rest (refusal f l) .number ≤ 7
+unfolding refusal
+small-first true f l rest hf hr = hr
+small-first false f l rest hf hr = hf
+
+small-inputs : (q : ℕ) (m : Memory) (n t k : ℕ) (xs : List InputLine) → All GoodLine xs → inputsFault q m n t k xs .number ≤ 7
+unfolding inputsFault
+small-inputs q m n t k [] good = small-first (ltb k (n + t)) 0 0 (refusal 7 (k + 4)) (omega arith) (unfold refusal in omega arith)
+small-inputs q m n t k (x ∷ xs) good =
+    small-first (eqb (cond (ltb k (n + t)) (inputLineFault q m n k x) 7) 0) _ (k + 4) (inputsFault q m n t (suc k) xs)
+    (small-either (ltb k (n + t)) _ 7 (small-line q m n k x (good .0)) (omega arith)) (small-inputs q m n t (suc k) xs (good .1))
+
 run-printed : (m : Memory) (n t : ℕ) (rows : List Input) → allowed m n t ≡ true → length rows ≡ n + t
+    → late (rowsFault p m (map (λ i. i .value) (take n rows)) 1 (take n rows) (drop n rows) .number) ≡ true
     → Refused (runText p m n t rows) ⊎ Run m n t rows (runText p m n t rows)
 unfolding runText
-run-printed m n t rows fit long = go (eqb (f .number) 0) refl
+run-printed m n t rows fit long after = go (eqb (f .number) 0) refl
   where
     f : Placed
     f = rowsFault p m (map (λ i. i .value) (take n rows)) 1 (take n rows) (drop n rows)
@@ -146,13 +190,16 @@ run-printed m n t rows fit long = go (eqb (f .number) 0) refl
           };
           filled = refl;
         })
-    go false test = inl (refused-by (f .number) (f .place + 3) test)
+    go false test = inl (refused-late (f .number) (f .place + 3) after test)
 
-inputs-printed : (m : Memory) (n t : ℕ) (xs : List InputLine) → allowed m n t ≡ true → All GoodLine xs
-    → Refused (inputsText p m n t xs) ⊎ Run m n t (inputsOfLines xs) (inputsText p m n t xs)
+inputs-printed : (m : Memory) (n t : ℕ) (lines : List Line) → allowed m n t ≡ true
+    → Refused (inputsText p m n t (map (parseInput p) lines)) ⊎ Run m n t (inputsOfLines (map (parseInput p) lines)) (inputsText p m n t (map (parseInput p) lines))
 unfolding inputsText
-inputs-printed m n t xs fit good = go (eqb (f .number) 0) refl
+inputs-printed m n t lines fit = go (eqb (f .number) 0) refl
   where
+    xs : List InputLine
+    xs = map (parseInput p) lines
+
     f : Refusal
     f = inputsFault p m n t 0 xs
 
@@ -161,8 +208,9 @@ inputs-printed m n t xs fit good = go (eqb (f .number) 0) refl
         ⊎ Run m n t (inputsOfLines xs) (cond b (runText p m n t (inputsOfLines xs)) (refusalText (f .number) (f .line)))
     go true test =
         run-printed m n t (inputsOfLines xs) fit
-        (omega (arith, inputs-counted p m n t 0 xs (omega arith) good (eqb-true (f .number) 0 test)))
-    go false test = inl (refused-by (f .number) (f .line) test)
+        (omega (arith, inputs-counted p m n t 0 xs (omega arith) (good-lines p lines) (eqb-true (f .number) 0 test)))
+        (tested-rows-late p m n t lines (eqb-true (f .number) 0 test))
+    go false test = inl (refused-by (f .number) (f .line) (small-inputs p m n t 0 xs (good-lines p lines)) test)
 
 -- of the lines: a value line that asks for a memory, size and count, and the rows from line 4 on
 record Printed (lines : List Line) (text : List ℕ) : Type 0 where
@@ -185,26 +233,26 @@ rows-printed m n t first value names lines asked fit = go (eqb (namesFault input
 
     go : (b : Bool) → eqb (namesFault inputNames names) 0 ≡ b → Refused (cond b text fault) ⊎ Printed (first ∷ value ∷ names ∷ lines) (cond b text fault)
     go true test =
-        elim (inputs-printed m n t (map (parseInput p) lines) fit (good-lines p lines)) [
+        elim (inputs-printed m n t lines fit) [
           | inl r ↦ inl r
           | inr w ↦ inr (record { memory = m; size = n; count = t; asked = asked; run = w })
         ]
-    go false test = inl (refused-by (namesFault inputNames names) 3 test)
+    go false test = inl (refused-by (namesFault inputNames names) 3 (small-names inputNames names) test)
 
 job-printed : (first value : Line) (j : Job) (lines : List Line) → parseJob p value ≡ j → GoodJob j
     → Refused (jobText p j lines) ⊎ Printed (first ∷ value ∷ lines) (jobText p j lines)
-job-printed first value (noJob f) lines asked good = inl (record { number = f; line = 2; fault = good; printed = unfold jobText in refl })
-job-printed first value (job m n t) [] asked good = inl (record { number = 7; line = 3; fault = omega arith; printed = unfold jobText in refl })
+job-printed first value (noJob f) lines asked good = inl (record { number = f; line = 2; fault = inl good; printed = unfold jobText in refl })
+job-printed first value (job m n t) [] asked good = inl (record { number = 7; line = 3; fault = inl (omega arith, omega arith); printed = unfold jobText in refl })
 job-printed first value (job m n t) (names ∷ lines) asked good = rows-printed m n t first value names lines asked good
 
 opened-printed : (first : Line) (lines : List Line) → Refused (jobLinesText p lines) ⊎ Printed (first ∷ lines) (jobLinesText p lines)
 unfolding jobLinesText
-opened-printed first [] = inl (record { number = 7; line = 2; fault = omega arith; printed = refl })
+opened-printed first [] = inl (record { number = 7; line = 2; fault = inl (omega arith, omega arith); printed = refl })
 opened-printed first (value ∷ lines) = job-printed first value (parseJob p value) lines refl (good-job p value)
 
 lines-printed : (lines : List Line) → Refused (fillLinesText p lines) ⊎ Printed lines (fillLinesText p lines)
 unfolding fillLinesText
-lines-printed [] = inl (record { number = 1; line = 1; fault = omega arith; printed = refl })
+lines-printed [] = inl (record { number = 1; line = 1; fault = inl (omega arith, omega arith); printed = refl })
 lines-printed (first ∷ lines) = go (eqb (namesFault fillNames first) 0) refl
   where
     fault : List ℕ
@@ -213,7 +261,7 @@ lines-printed (first ∷ lines) = go (eqb (namesFault fillNames first) 0) refl
     go : (b : Bool) → eqb (namesFault fillNames first) 0 ≡ b
         → Refused (cond b (jobLinesText p lines) fault) ⊎ Printed (first ∷ lines) (cond b (jobLinesText p lines) fault)
     go true test = opened-printed first lines
-    go false test = inl (refused-by (namesFault fillNames first) 1 test)
+    go false test = inl (refused-by (namesFault fillNames first) 1 (small-names fillNames first) test)
 
 -- What the filling program prints is a refusal, or is accepted behind its header at every challenge.
 pub filling-accepted : FillingAccepted

@@ -8,7 +8,7 @@ use mathlib.Core.Bool.{Bool, true, false, _&&_, cond}
 use mathlib.Core.Option.{some}
 use mathlib.Core.List.{List, [], _∷_, _++_, map, map-append}
 use lib.Dec.{eqb}
-use lib.ListN.{length, take, drop, length-append, length-map, length-take, length-drop}
+use lib.ListN.{length, take, drop, replicate, length-append, length-map, length-take, length-drop, length-replicate}
 use lib.Seq.{take-at, drop-at, take-add, length-take-le}
 use borrow.Author.Tests.{eqb-true, eqb-false, eq-eqb, le-leb}
 use Rattle.memory.specs.declared.Memory.{Memory}
@@ -24,7 +24,7 @@ use Rattle.memory.specs.Rows.{allowed, opsDue, opIn, formed}
 use Rattle.memory.specs.Plain.{start, after}
 use Rattle.memory.specs.Honest.{Input, inputOf, bare, filledRows, impossible, inputOperation, possible}
 use Rattle.memory.specs.Filler.{memoryCode, memoryCoded, opCoded, inputsIn, inputNumbers, rowNumbers, room, inputFault, operationFault, Placed, placed, operationsFault, rowsFault, Filling, turnedAway, filledWith, rowRefused, fillRows, fillMemory, fillOf}
-use Rattle.memory.specs.Bound.{Advised}
+use Rattle.memory.specs.Bound.{fillingFor, Advised}
 use Rattle.memory.proofs.ReadRows.{both-pass, chosen-zero}
 
 -- the numbers of memories and ops
@@ -160,6 +160,7 @@ pub record FilledRows (q : ℕ) (m : Memory) (n t : ℕ) (rows : List Row) : Typ
   pub filled : rows ≡ filledRows m t (map inputOf (take n rows)) (map inputOf (take t (drop n rows)))
 
 pub advised-rows : (q : ℕ) (m : Memory) (n t : ℕ) (rows : List Row) → Advised q m n t rows → FilledRows q m n t rows
+unfolding fillingFor
 advised-rows q m n t rows a =
     record { fit = fit .0; size = size; count = count; unrefused = w .unrefused; filled = sym (row-numbers-injective honest rows same) }
   where
@@ -203,6 +204,47 @@ advised-rows q m n t rows a =
         unfold filledWith in
         sym (take-at (rowNumbers honest) (drop (length (rowNumbers honest)) (a .output)) (7 * length rows) (omega (arith, row-numbers-length honest, counted)))
         ∙ (ap (λ (f : Filling). take (7 * length rows) (f .output)) (sym result) ∙ a .written)
+
+-- The other way round: rows that the filler writes for the init rows and operations among them have the filler's advice.
+pub filled-advised : (q : ℕ) (m : Memory) (n t : ℕ) (inits ops : List Input) → allowed m n t ≡ true → length inits ≡ n → length ops ≡ t
+    → rowsFault q m (map (λ i. i .value) inits) 1 inits ops .number ≡ 0
+    → map inputOf (take (n + t) (filledRows m t inits ops)) ≡ inits ++ ops
+    → Advised q m n t (filledRows m t inits ops)
+unfolding fillingFor filledWith
+filled-advised q m n t inits ops fit size count unrefused same = record {
+  output = output;
+  scratch = scratch;
+  outputRoom = wide;
+  scratchRoom = deep;
+  filled = ap (λ (f : Filling). f .answer) result;
+  counted = ap (λ (f : Filling). f .count) result;
+  written =
+      ap (λ (f : Filling). take (7 * length rows) (f .output)) result
+      ∙ take-at (rowNumbers rows) (drop (length (rowNumbers rows)) output) (7 * length rows) (row-numbers-length rows);
+}
+  where
+    rows : List Row
+    rows = filledRows m t inits ops
+
+    output : List ℕ
+    output = replicate (7 * room n t) 0
+
+    scratch : List ℕ
+    scratch = replicate (room n t) 0
+
+    wide : 7 * room n t ≤ length output
+    wide = omega (arith, length-replicate {A = ℕ} (7 * room n t) 0)
+
+    deep : room n t ≤ length scratch
+    deep = omega (arith, length-replicate {A = ℕ} (room n t) 0)
+
+    unstopped : fillRows q m t inits ops output scratch ≡ filledWith rows output scratch
+    unstopped = unfold fillRows in rw unrefused
+
+    result : fillOf q (memoryCode m) n t (inputNumbers (map inputOf (take (n + t) rows))) output scratch ≡ filledWith rows output scratch
+    result =
+        ap (λ (is : List Input). fillOf q (memoryCode m) n t (inputNumbers is) output scratch) same
+        ∙ (fill-with-room q m n t inits ops output scratch fit size count wide deep ∙ unstopped)
 
 -- An input row that meets none of 3, 5, 6: its numbers are elements, its op is due, and the row has its form.
 abbrev pub DueInput : ℕ → Memory → Phase → Input → Type 0

@@ -165,6 +165,11 @@ rom-rows cells keys [] = refl
 rom-rows cells keys (i ∷ ops) = ap {B = List Row} (λ rs. romRow cells i (occurrences (i .addr) keys) ∷ rs) (rom-rows cells (i .addr ∷ keys) ops)
 
 -- as many operation rows as operations, as many end rows as cells
+pub rom-inputs : (cells keys : List ℕ) (ops : List Input) → map inputOf (romOps cells keys ops) ≡ ops
+unfolding romOps romRow honest filledRow inputOf
+rom-inputs cells keys [] = refl
+rom-inputs cells keys (i ∷ is) = ap {B = List Input} (λ l. i ∷ l) (rom-inputs cells _ is)
+
 pub length-romOps : (cells keys : List ℕ) (ops : List Input) → length (romOps cells keys ops) ≡ length ops
 unfolding romOps
 length-romOps cells keys ops = length-honest (λ i. i .addr) (romRow cells) keys ops
@@ -278,6 +283,11 @@ set-rows elements keys [] = refl
 set-rows elements keys (i ∷ ops) = ap {B = List Row} (λ rs. setRow i (occurrences (i .value) keys) ∷ rs) (set-rows elements (i .value ∷ keys) ops)
 
 -- as many operation rows as operations, as many end rows as elements
+pub set-inputs : (keys : List ℕ) (ops : List Input) → map inputOf (setOps keys ops) ≡ ops
+unfolding setOps setRow honest filledRow inputOf
+set-inputs keys [] = refl
+set-inputs keys (i ∷ is) = ap {B = List Input} (λ l. i ∷ l) (set-inputs _ is)
+
 pub length-setOps : (keys : List ℕ) (ops : List Input) → length (setOps keys ops) ≡ length ops
 unfolding setOps
 length-setOps keys ops = length-honest (λ i. i .value) setRow keys ops

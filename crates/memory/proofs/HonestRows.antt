@@ -5,9 +5,10 @@ use Prim.Native.Nat.{ℕ, zero, suc, _+_, _≤_, _<_}
 use native.Mathlib.Omega.{arith}
 use mathlib.Core.Path.{_≡_, refl, sym, _∙_, ap, ap₂, subst}
 use mathlib.Core.Bool.{Bool, true, false, _&&_, or-true}
-use mathlib.Core.List.{List, [], _∷_, _++_, map, append-nil}
+use mathlib.Core.List.{List, [], _∷_, _++_, map, append-nil, map-append}
 use lib.Dec.{leb}
 use lib.ListN.{length, take, drop, length-map}
+use lib.Seq.{take-add}
 use borrow.Author.Tests.{lt-ltb, le-ltb, ne-eqb}
 use Rattle.algebra.specs.Prime.{Prime}
 use Rattle.memory.specs.declared.Memory.{Memory}
@@ -20,23 +21,23 @@ use Rattle.memory.specs.declared.Row.{Row}
 use Rattle.memory.specs.declared.Parsed.the-variants.{Sound}
 use Rattle.memory.specs.Bytes.{Line, allBelow}
 use Rattle.memory.specs.Names.{opCode, isOp}
-use Rattle.memory.specs.Rows.{raised, lowered, endsDue, rangesDue, opsDue, opIn, columns, used, empty, formed, depthProduct, sunk}
+use Rattle.memory.specs.Rows.{allowed, raised, lowered, endsDue, rangesDue, opsDue, opIn, columns, used, empty, formed, depthProduct, sunk}
 use Rattle.memory.specs.Equations.{listsOf, fileLists}
 use Rattle.memory.specs.Plain.{Trace, Operation, start, allFit, right, operationOf, traceOf}
 use Rattle.memory.specs.Honest.{Input, inputOf, filledRow, bare, endRow, rangeRow, rangeRowsFrom, Cell, ramRow, ramEnds, romEndsFrom, setEndsFrom, stackEnds, operationsFilled, filledRows, possible}
 use Rattle.memory.specs.File.{parseRows, refusal, firstFault}
-use Rattle.memory.specs.Bound.{rowsIn, traceIn}
+use Rattle.memory.specs.Bound.{rowsIn, traceIn, Advised}
 use Rattle.memory.specs.Statements.{HonestRows, RefusedNotRight}
 use Rattle.memory.proofs.Operations.{Inputs, inputAt, input-cases}
-use Rattle.memory.proofs.HonestLookups.{honest, romRow, romOps, romFinal, rom-rows, length-romOps, length-romFinal, rom-right-possible, rom-right-trace, setRow, setOps, setFinal, set-rows, length-setOps, length-setFinal, set-right-possible, set-right-trace}
+use Rattle.memory.proofs.HonestLookups.{honest, romRow, romOps, romFinal, rom-rows, rom-inputs, length-romOps, length-romFinal, rom-right-possible, rom-right-trace, setRow, setOps, setFinal, set-rows, set-inputs, length-setOps, length-setFinal, set-right-possible, set-right-trace}
 use Rattle.memory.proofs.RamCells.{startCells}
-use Rattle.memory.proofs.RamComplete.{ramOps, ramFinalAges, ramOpRows, ramEndRows, ramRangeRows, ram-rows, ram-op-rows-length, ram-end-rows-length, ranges-length}
+use Rattle.memory.proofs.RamComplete.{ramOps, ram-inputs, ramFinalAges, ramOpRows, ramEndRows, ramRangeRows, ram-rows, ram-op-rows-length, ram-end-rows-length, ranges-length}
 use Rattle.memory.proofs.RamRight.{ram-right-possible, ram-right-same}
-use Rattle.memory.proofs.StackComplete.{stackRow, stackOps, stackFinalAges, stackOpRows, stackEndRows, stackRangeRows, stack-filled, stack-length, stack-not-below, stack-ends-due, stack-right-possible, stack-right-operations}
-use Rattle.memory.proofs.QueueComplete.{queueRow, queueOps, queueFinal, queueEnds, queue-filled, queue-length, queue-nonzero, queue-ends-due, queue-right-possible, queue-right-operations}
+use Rattle.memory.proofs.StackComplete.{stackRow, stack-inputs, stackOps, stackFinalAges, stackOpRows, stackEndRows, stackRangeRows, stack-filled, stack-length, stack-not-below, stack-ends-due, stack-right-possible, stack-right-operations}
+use Rattle.memory.proofs.QueueComplete.{queueRow, queue-inputs, queueOps, queueFinal, queueEnds, queue-filled, queue-length, queue-nonzero, queue-ends-due, queue-right-possible, queue-right-operations}
 use Rattle.memory.proofs.ReadRows.{both-pass, RowBelow, RowsBelow, lines-below, taken-below, dropped-below}
 use Rattle.memory.proofs.Phases.{DueRow, DueRows, Parts, only-op, formed-guard, due-ops, parts-inits, parts-ops, parts-lists, lines-parts, parts-no-fault}
-use Rattle.memory.proofs.FillerRows.{DueInput, DueInputs, valuesOf, Unrefused, unrefused-zero}
+use Rattle.memory.proofs.FillerRows.{filled-advised, DueInput, DueInputs, valuesOf, Unrefused, unrefused-zero}
 use Rattle.memory.proofs.FilledBelow.{filled-below}
 
 -- The rows that the honest prover's rules give after the init rows: operations, end rows, range rows.
@@ -70,6 +71,21 @@ honest-split Rom t values ops = rom-rows values [] ops ∙ ap (λ (l : List Row)
 honest-split Set t values ops = set-rows values [] ops ∙ ap (λ (l : List Row). setOps [] ops ++ l) (sym (append-nil (setFinal values [] ops)))
 honest-split Stack t values ops = stack-filled [] 1 [] t ops
 honest-split Queue t values ops = queue-filled [] ops ∙ ap (λ (l : List Row). queueOps [] ops ++ l) (sym (append-nil (queueEnds (queueFinal [] ops))))
+
+-- the operations are filled from the inputs,
+honest-inputs : (m : Memory) (values : List ℕ) (ops : List Input) → map inputOf (honestOps m values ops) ≡ ops
+unfolding honestOps
+honest-inputs Ram values ops = ram-inputs (startCells values) 1 [] ops
+honest-inputs Rom values ops = rom-inputs values [] ops
+honest-inputs Set values ops = set-inputs [] ops
+honest-inputs Stack values ops = stack-inputs [] 1 [] ops
+honest-inputs Queue values ops = queue-inputs [] ops
+
+-- and so are the init rows
+bare-inputs : (inits : List Input) → map inputOf (map bare inits) ≡ inits
+unfolding bare filledRow inputOf
+bare-inputs [] = refl
+bare-inputs (i ∷ is) = ap {B = List Input} (λ l. i ∷ l) (bare-inputs is)
 
 -- how many they are
 honest-ops-length : (m : Memory) (values : List ℕ) (ops : List Input) → length (honestOps m values ops) ≡ length ops
@@ -292,6 +308,19 @@ unfolding filled-parts
 filled-lists q m n t inits ops prime room size count u =
     parts-lists q m n t (filledRows m t inits ops) (filled-parts q m n t inits ops prime room size count u)
 
+-- the init rows and operations among them are the filler's input
+filled-inputs : (q : ℕ) (m : Memory) (n t : ℕ) (inits ops : List Input) → Prime q → t + 1 < q → length inits ≡ n → length ops ≡ t
+    → Unrefused q m (valuesOf inits) inits ops
+    → map inputOf (take (n + t) (filledRows m t inits ops)) ≡ inits ++ ops
+unfolding filled-parts
+filled-inputs q m n t inits ops prime room size count u =
+    let rows = filledRows m t inits ops in
+    let p = filled-parts q m n t inits ops prime room size count u in
+    ap (map inputOf) (take-add n t rows)
+    ∙ (map-append inputOf (take n rows) (take t (drop n rows))
+    ∙ ap₂ (λ (xs ys : List Input). xs ++ ys) (ap (map inputOf) (parts-inits q m n t rows p) ∙ bare-inputs inits)
+    (ap (map inputOf) (parts-ops q m n t rows p) ∙ honest-inputs m (valuesOf inits) ops))
+
 -- The rows of a well-formed file, as the filler's input: each is due.
 zero-empty : (u : Bool) → empty u 0 ≡ true
 unfolding empty
@@ -406,6 +435,14 @@ module _ (q : ℕ) (m : Memory) (n t : ℕ) (inits ops : List Row) (prime : Prim
       parts-no-fault q m n t (filledRows m t (map inputOf inits) (map inputOf ops))
       (filled-below q m t (map inputOf inits) (map inputOf ops) room (length-map ops inputOf ∙ count) unrefused) honestParts
 
+  -- their advice is the filler's
+  honest-advised : allowed m n t ≡ true → Advised q m n t (filledRows m t (map inputOf inits) (map inputOf ops))
+  honest-advised fine =
+      let long = length-map inits inputOf ∙ size in
+      let many = length-map ops inputOf ∙ count in
+      filled-advised q m n t (map inputOf inits) (map inputOf ops) fine long many (unrefused-zero q m _ 1 _ _ unrefused)
+      (filled-inputs q m n t (map inputOf inits) (map inputOf ops) prime room long many unrefused)
+
   -- they have the same trace
   honest-trace : traceOf m n t (filledRows m t (map inputOf inits) (map inputOf ops)) ≡ rowsTrace m n t inits ops
   unfolding traceOf rowsTrace honestParts filled-parts
@@ -437,4 +474,5 @@ honest-rows q m n t lines prime room below e fit =
       fills = unrefused-zero q m _ 1 _ _ u;
       complete = honest-complete q m n t inits ops prime room size count due fits u;
       trace = honest-trace q m n t inits ops prime room size count due fits u;
+      advised = honest-advised q m n t inits ops prime room size count due fits u;
     }

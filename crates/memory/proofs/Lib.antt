@@ -31,6 +31,7 @@ pub mod Expected
 pub mod Closing
 pub mod Fold
 pub mod Gates
+pub mod Sight
 pub mod FillerRows
 pub mod HonestRows
 pub mod HonestBalances

@@ -2,8 +2,9 @@
 -- Assumes nothing.
 use Rattle.memory.specs.Promises.{Promises}
 use Rattle.memory.proofs.Fold.{fold-is-file, run-is-file, fixed-state, ended-state, accepts-exactly-when}
+use Rattle.memory.proofs.Sight.{fault-by-form}
 use Rattle.memory.proofs.Gates.{gates-by-formula}
-use Rattle.memory.proofs.Factors.{factors-counted, hashes-counted}
+use Rattle.memory.proofs.Factors.{factors-counted, choices-counted, hashes-counted, depths-counted}
 use Rattle.memory.proofs.Demand.{demand-at, demand-three}
 use Rattle.memory.proofs.HonestRows.{honest-rows, refused-not-right}
 use Rattle.memory.proofs.Stream.{stream-cut, stream-is-file}
@@ -12,18 +13,21 @@ use Rattle.memory.proofs.FilledFile.{filling-accepted}
 use Rattle.memory.proofs.FillStream.{fill-stream-cut, fill-stream-is-text}
 use Rattle.memory.proofs.FillTested.{tested-rows-late}
 use Rattle.memory.proofs.FillLength.{fill-text-short}
-use Rattle.memory.proofs.Cases.{cases-hold, ram-products}
+use Rattle.memory.proofs.Cases.{cases-hold, counted-challenge, ram-products}
 
 pub promises : Promises
 promises = record {
   fold = fold-is-file;
   run = run-is-file;
+  sight = fault-by-form;
   fixed = fixed-state;
   ended = ended-state;
   accepts = accepts-exactly-when;
   gates = gates-by-formula;
   factors = factors-counted;
+  choices = choices-counted;
   hashes = hashes-counted;
+  depths = depths-counted;
   demandAt = demand-at;
   demandThree = demand-three;
   honestRows = honest-rows;
@@ -38,5 +42,6 @@ promises = record {
   tested = tested-rows-late;
   short = fill-text-short;
   cases = cases-hold;
+  counted = counted-challenge;
   products = ram-products;
 }

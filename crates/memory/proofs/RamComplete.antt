@@ -16,7 +16,7 @@ use Rattle.memory.specs.declared.Memory.the-variants.{Ram}
 use Rattle.memory.specs.declared.Row.{Row}
 use Rattle.memory.specs.Equations.{Triple, triple, Lookup, initWrites, accessRead, newOf, accessWrites, accessLookups, cellEnds, rangeSetup, rangeRead, rangeWrite, rangeEnds}
 use Rattle.memory.specs.Plain.{store, load, after, allFit, operationOf}
-use Rattle.memory.specs.Honest.{Input, filledRow, bare, endRow, occurrences, rangeRowsFrom, Cell, cell, cellAt, ramAge, ramRow, ramCells, ramEnds, ramFrom, impossible, inputOperation, possible, operationsFilled}
+use Rattle.memory.specs.Honest.{Input, inputOf, filledRow, bare, endRow, occurrences, rangeRowsFrom, Cell, cell, cellAt, ramAge, ramRow, ramCells, ramEnds, ramFrom, impossible, inputOperation, possible, operationsFilled}
 use Rattle.memory.proofs.Ages.{InRange}
 use Rattle.memory.proofs.Clock.{age-of-earlier}
 use Rattle.memory.proofs.HonestLookups.{honest, keysAfter, honestLookups, agesAfter, AgesIn, range-complete}
@@ -50,6 +50,12 @@ unfolding ramFrom ramOps ramFinalCells ramFinalAges
 ram-split cells clock ages t [] = refl
 ram-split cells clock ages t (i ∷ is) = ap {B = List Row} (λ l. ramRow cells clock ages i ∷ l) (ram-split (ramCells cells clock i) (suc clock) (ramAge cells clock i ∷ ages) t is)
 
+-- the operation rows are filled from the inputs
+pub ram-inputs : (cells : List Cell) (clock : ℕ) (ages : List ℕ) (is : List Input) → map inputOf (ramOps cells clock ages is) ≡ is
+unfolding ramOps ramRow filledRow inputOf
+ram-inputs cells clock ages [] = refl
+ram-inputs cells clock ages (i ∷ is) = ap {B = List Input} (λ l. i ∷ l) (ram-inputs _ _ _ is)
+
 -- how many they are
 ops-length : (cells : List Cell) (clock : ℕ) (ages : List ℕ) (is : List Input) → length (ramOps cells clock ages is) ≡ length is
 unfolding ramOps
@@ -58,7 +64,7 @@ ops-length cells clock ages (i ∷ is) = ap suc (ops-length (ramCells cells cloc
 
 cells-length : (cells : List Cell) (clock : ℕ) (i : Input) → length (ramCells cells clock i) ≡ length cells
 unfolding ramCells
-cells-length cells clock i = length-set cells (i .addr) (cell (cond (eqb (i .guard) 1) (i .value) (cellAt cells (i .addr) .content)) clock)
+cells-length cells clock i = length-set cells (i .addr) _
 
 final-cells-length : (cells : List Cell) (clock : ℕ) (is : List Input) → length (ramFinalCells cells clock is) ≡ length cells
 unfolding ramFinalCells

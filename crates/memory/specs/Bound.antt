@@ -20,7 +20,7 @@ use Rattle.memory.specs.File.{firstFault, rowsOf, parseRows}
 use Rattle.memory.specs.Plain.{Trace, traceOf}
 use Rattle.memory.specs.Honest.{inputOf}
 use Rattle.memory.specs.Step.{freshOf, runOf, endOf, reportOf}
-use Rattle.memory.specs.Filler.{fillOf, memoryCode, room, inputNumbers, rowNumbers}
+use Rattle.memory.specs.Filler.{Filling, fillOf, memoryCode, room, inputNumbers, rowNumbers}
 
 -- the challenge of four elements
 unfoldable pub challenge : ℕ → ℕ → ℕ → ℕ → Challenge
@@ -55,14 +55,16 @@ rowsIn q lines = rowsOf (parseRows q lines)
 unfoldable pub traceIn : ℕ → Memory → ℕ → ℕ → List Line → Trace
 traceIn q m n t lines = traceOf m n t (rowsIn q lines)
 
+-- what the filler leaves for the init rows and operations of a list of rows
+unfoldable pub fillingFor : ℕ → Memory → ℕ → ℕ → List Row → List ℕ → List ℕ → Filling
+fillingFor q m n t rows output scratch = fillOf q (memoryCode m) n t (inputNumbers (map inputOf (take (n + t) rows))) output scratch
+
 -- "The advice is the filler's if the rows are those that the filler, given its room, writes for the same init rows and operations."
 pub record Advised (q : ℕ) (m : Memory) (n t : ℕ) (rows : List Row) : Type 0 where
   pub output : List ℕ
   pub scratch : List ℕ
   pub outputRoom : 7 * room n t ≤ length output
   pub scratchRoom : room n t ≤ length scratch
-  pub filled : fillOf q (memoryCode m) n t (inputNumbers (map inputOf (take (n + t) rows))) output scratch .answer ≡ 0
-  pub counted : fillOf q (memoryCode m) n t (inputNumbers (map inputOf (take (n + t) rows))) output scratch .count ≡ length rows
-  pub written :
-      take (7 * length rows) (fillOf q (memoryCode m) n t (inputNumbers (map inputOf (take (n + t) rows))) output scratch .output)
-      ≡ rowNumbers rows
+  pub filled : fillingFor q m n t rows output scratch .answer ≡ 0
+  pub counted : fillingFor q m n t rows output scratch .count ≡ length rows
+  pub written : take (7 * length rows) (fillingFor q m n t rows output scratch .output) ≡ rowNumbers rows

@@ -2,17 +2,20 @@
 -- Assumes nothing.
 use Prim.Native.Nat.{ℕ}
 use Prim.Native.String.{String}
+use mathlib.Core.Path.{_≡_}
 use mathlib.Core.Bool.{Bool, true, false, _&&_}
 use mathlib.Core.List.{List, [], _∷_, _++_}
 use lib.Dec.{T}
 use lib.ListN.{getD, drop}
 use Rattle.field.specs.Field.{p}
+use Rattle.memory.specs.declared.Memory.the-variants.{Ram}
 use Rattle.memory.specs.declared.Row.{Row}
 use Rattle.memory.specs.Text.{bytes}
 use Rattle.memory.specs.Bytes.{Line, same, feed, linesOf}
 use Rattle.memory.specs.Names.{reportNames}
 use Rattle.memory.specs.Equations.{product, fileLists}
 use Rattle.memory.specs.File.{rowsOf, parseRows, Opening, opens, shut, parseValues, fileReport}
+use Rattle.memory.specs.Bound.{accepts, challenge}
 use Rattle.memory.specs.Print.{reportText}
 
 -- A file, and the second line that is printed for it: answer, line, inputs, multiplications
@@ -28,11 +31,15 @@ unfoldable pub ramCase : Case
 ramCase =
     case "memory,size,count,r,a,b,c\nram,2,2,100,1,2,3\nop,guard,addr,value,old,time,version\ninit,0,0,5,0,0,0\ninit,0,0,9,0,0,0\naccess,1,0,7,5,0,0\naccess,0,0,0,7,1,1\nend,0,0,0,7,2,0\nend,0,0,0,9,0,0\nrange,0,0,0,0,0,2\nrange,0,0,0,0,0,0\n" "0,0,12,16"
 
+-- "line 7's old made 5"
+unfoldable pub changedCase : Case
+changedCase =
+    case "memory,size,count,r,a,b,c\nram,2,2,100,1,2,3\nop,guard,addr,value,old,time,version\ninit,0,0,5,0,0,0\ninit,0,0,9,0,0,0\naccess,1,0,7,5,0,0\naccess,0,0,0,5,1,1\nend,0,0,0,7,2,0\nend,0,0,0,9,0,0\nrange,0,0,0,0,0,2\nrange,0,0,0,0,0,0\n" "10,11,0,0"
+
 unfoldable pub cases : List Case
 cases =
     ramCase
-    -- line 7's old made 5
-    ∷ case "memory,size,count,r,a,b,c\nram,2,2,100,1,2,3\nop,guard,addr,value,old,time,version\ninit,0,0,5,0,0,0\ninit,0,0,9,0,0,0\naccess,1,0,7,5,0,0\naccess,0,0,0,5,1,1\nend,0,0,0,7,2,0\nend,0,0,0,9,0,0\nrange,0,0,0,0,0,2\nrange,0,0,0,0,0,0\n" "10,11,0,0"
+    ∷ changedCase
     -- with challenge 100,0,0,0 as well: one of the counted challenges
     ∷ case "memory,size,count,r,a,b,c\nram,2,2,100,0,0,0\nop,guard,addr,value,old,time,version\ninit,0,0,5,0,0,0\ninit,0,0,9,0,0,0\naccess,1,0,7,5,0,0\naccess,0,0,0,5,1,1\nend,0,0,0,7,2,0\nend,0,0,0,9,0,0\nrange,0,0,0,0,0,2\nrange,0,0,0,0,0,0\n" "0,0,12,16"
     -- stack: a pop on an empty stack that reads the push after it
@@ -70,6 +77,10 @@ allReported (c ∷ cs) = reported c && allReported cs
 -- The table's one fact. (Cases: cases-hold)
 abbrev pub CasesHold : Type 0
 CasesHold = T (allReported cases)
+
+-- "With challenge 100,0,0,0 as well: …, one of the counted challenges.": it accepts the changed rows. (Cases: counted-challenge)
+abbrev pub CountedChallenge : Type 0
+CountedChallenge = accepts p Ram 2 2 (drop 3 (linesOf (bytes (changedCase .file)))) (challenge 100 0 0 0) ≡ true
 
 -- the products of a file's lists: of the records written and read, and of the range's pairs written and read
 unfoldable pub openedProducts : ℕ → Opening → List Row → List ℕ

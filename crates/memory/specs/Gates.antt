@@ -11,6 +11,7 @@ use Rattle.memory.specs.declared.Op.{Op}
 use Rattle.memory.specs.declared.Op.the-variants.{Init, Access, Look, Member, Push, Pop, Enqueue, Dequeue, End, Range, Other}
 use Rattle.memory.specs.declared.Row.{Row}
 use Rattle.memory.specs.Names.{isOp}
+use Rattle.memory.specs.Rows.{used}
 
 -- the inputs of a row: the advice that it brings. "Restated values are not inputs."
 unfoldable pub rowInputs : Memory → Op → ℕ
@@ -72,14 +73,27 @@ unfoldable pub multsOf : Memory → List Row → ℕ
 multsOf m [] = 0
 multsOf m (row ∷ rows) = rowMults m (row .op) + multsOf m rows
 
--- the factors of a list of rows, and their hash steps
+-- the factors of a list of rows, their choices by a guard, their hash steps and their depth steps
 unfoldable pub factorsOf : Memory → List Row → ℕ
 factorsOf m [] = 0
 factorsOf m (row ∷ rows) = rowCosts m (row .op) .factors + factorsOf m rows
 
+unfoldable pub choicesOf : Memory → List Row → ℕ
+choicesOf m [] = 0
+choicesOf m (row ∷ rows) = rowCosts m (row .op) .choices + choicesOf m rows
+
 unfoldable pub hashesOf : Memory → List Row → ℕ
 hashesOf m [] = 0
 hashesOf m (row ∷ rows) = rowCosts m (row .op) .hashes + hashesOf m rows
+
+unfoldable pub depthsOf : Memory → List Row → ℕ
+depthsOf m [] = 0
+depthsOf m (row ∷ rows) = rowCosts m (row .op) .depths + depthsOf m rows
+
+-- how many rows use the guard column
+unfoldable pub guarded : Memory → List Row → ℕ
+guarded m [] = 0
+guarded m (row ∷ rows) = cond (used m (row .op) .guard) 1 0 + guarded m rows
 
 -- how many rows of an op are skipped: their guard is 0
 unfoldable pub skippedWith : Op → List Row → ℕ

@@ -17,9 +17,9 @@ use Rattle.memory.specs.declared.Challenge.{Challenge}
 use Rattle.memory.specs.declared.State.{State}
 use Rattle.memory.specs.declared.Report.{Report}
 use Rattle.memory.specs.Bytes.{Line, allBelow, linesOf}
-use Rattle.memory.specs.Rows.{allowed, raised, lowered, rangesDue}
+use Rattle.memory.specs.Rows.{allowed, raised, lowered, rangesDue, formed, rowBelow, lineFault}
 use Rattle.memory.specs.Equations.{fileLists, rangeBalances, memoryBalances}
-use Rattle.memory.specs.Gates.{inputsOf, multsOf, factorsOf, hashesOf, skippedWith, inputsFormula, multsFormula, puts, takes}
+use Rattle.memory.specs.Gates.{inputsOf, multsOf, factorsOf, choicesOf, hashesOf, depthsOf, guarded, skippedWith, rowsWith, inputsFormula, multsFormula, puts, takes}
 use Rattle.memory.specs.File.{firstFault, refusal, parseRows, valuesFault, valuesReport, fileReport}
 use Rattle.memory.specs.Plain.{right, traceOf}
 use Rattle.memory.specs.Honest.{Input, inputOf, filledRows}
@@ -44,6 +44,14 @@ abbrev pub RunIsFile : Type 0
 RunIsFile =
     (q : ℕ) (m : Memory) (n t : ℕ) (ch : Challenge) (lines : List Line) → 2 ≤ q
     → reportOf (endOf (runOf q (freshOf q m n t ch) lines)) ≡ valuesReport q m n t ch (parseRows q lines)
+
+-- "a false restatement is not refused on sight", "An access outside a ram or rom is not refused on sight": of rows that have their form and whose numbers are
+-- elements, op and guard alone decide whether a line is refused. (Sight: fault-by-form)
+abbrev pub FaultByForm : Type 0
+FaultByForm =
+    (q : ℕ) (m : Memory) (n t : ℕ) (rows : List Row) (x y : Row) → x .op ≡ y .op → x .guard ≡ y .guard
+    → (rowBelow q x ≡ true) × (formed m x ≡ true) → (rowBelow q y ≡ true) × (formed m y ≡ true)
+    → lineFault q m n t rows (Sound x) ≡ lineFault q m n t rows (Sound y)
 
 -- "After a refusal or the end of file a state is fixed": rows and ends leave it as it is. (Fold: fixed-state)
 abbrev pub FixedState : Type 0
@@ -93,10 +101,20 @@ HashesCounted =
     let l = fileLists q m n t rows in
     hashesOf m rows ≡ length (l .enqueued) + length (l .dequeued) + (skippedWith Enqueue rows + skippedWith Dequeue rows)
 
+-- "So does each choice by a guard": one for each row that uses the guard column. (Factors: choices-counted)
+abbrev pub ChoicesCounted : Type 0
+ChoicesCounted = (m : Memory) (rows : List Row) → choicesOf m rows ≡ guarded m rows
+
+-- "So does … each depth step": one for each dequeue, since "Each dequeue multiplies a product". (Factors: depths-counted)
+abbrev pub DepthsCounted : Type 0
+DepthsCounted = (m : Memory) (rows : List Row) → depthsOf m rows ≡ rowsWith Dequeue rows
+
 -- Demand 3, for one list of rows: "incomplete or malformed, no challenge accepts; else if the trace is wrong, whatever the advice, at most 2·m·p³ of the p⁴
 -- challenges accept; and if it is right and the advice is the filler's, all p⁴ do"
 pub record Demand (q : ℕ) (m : Memory) (n t : ℕ) (lines : List Line) : Type 0 where
   pub incomplete : malformed q m n t lines ≡ true → (ch : Challenge) → accepts q m n t lines ch ≡ false
+  -- 8: "the queue's depth product is 0, or the stack's depth is below 0"
+  pub depth : firstFault q m n t [] (parseRows q lines) .number ≡ 8 → (ch : Challenge) → accepts q m n t lines ch ≡ false
   pub wrong :
       malformed q m n t lines ≡ false → right (traceIn q m n t lines) ≡ false
       → challenges q (accepts q m n t lines) ≤ 2 * degree m n t (rowsIn q lines) * q ^ 3
@@ -124,6 +142,8 @@ pub record HonestRun (q : ℕ) (m : Memory) (n t : ℕ) (rows : List Row) : Type
   pub complete :
       firstFault q m n t [] (map Sound (filledRows m t (map inputOf (take n rows)) (map inputOf (take t (drop n rows))))) ≡ refusal 0 0
   pub trace : traceOf m n t (filledRows m t (map inputOf (take n rows)) (map inputOf (take t (drop n rows)))) ≡ traceOf m n t rows
+  -- their advice is the filler's
+  pub advised : allowed m n t ≡ true → Advised q m n t (filledRows m t (map inputOf (take n rows)) (map inputOf (take t (drop n rows))))
 
 abbrev pub HonestRows : Type 0
 HonestRows =
@@ -177,11 +197,15 @@ HonestRunAccepted =
     → let rows = filledRows m t inits ops in
     reportOf (endOf (runOf p (freshOf p m n t ch) (linesOf (rowsText rows)))) ≡ acceptance m n t rows
 
+-- the numbers with which the filling program refuses: "1 to 7 by line, then 11 to 13"
+abbrev pub FillNumber : ℕ → Type 0
+FillNumber k = ((1 ≤ k) × (k ≤ 7)) ⊎ ((11 ≤ k) × (k ≤ 13))
+
 -- The filling program, for any input: it prints a refusal,
 pub record FillRefused (bytes : List ℕ) : Type 0 where
   pub number : ℕ
   pub line : ℕ
-  pub fault : 1 ≤ number
+  pub fault : FillNumber number
   pub printed : fillText p bytes ≡ refusalText number line
 
 -- or the file from line 3 on, of the memory, size and count of its value line and of its rows; and behind the header with any challenge that is accepted
