@@ -3,12 +3,10 @@
 use Prim.Native.Nat.{ℕ, zero, suc, _+_, _*_, _/_, _%_, _≤_, _<_, _∣_}
 use mathlib.Core.Path.{_≡_, _∙_, ap, subst}
 use mathlib.Core.Logic.{_⊎_, inl, inr}
-use mathlib.Core.List.{List, [], _∷_}
-use native.Mathlib.Nat.{eq-zero-or-pos, le-refl, one-mul, mod-lt, mod-eq-of-lt, mod-add-div}
+use native.Mathlib.Nat.{eq-zero-or-pos, le-refl, one-mul, mod-lt, mod-add-div}
 use native.Mathlib.Nat.{dvd-mul-right, dvd-mul-right-of-dvd, dvd-add-iff-left, dvd-of-mod-eq-zero, mod-eq-zero-of-dvd}
 use native.Mathlib.Omega.{arith}
-use lib.ListN.{length, getD}
-use Rattle.algebra.specs.Prime.{Prime, multiply}
+use Rattle.algebra.specs.Prime.{Prime}
 use Rattle.algebra.specs.Statements.{ZeroProduct}
 use Rattle.algebra.proofs.Modulo.{same-refl, same-mod, same-mul}
 
@@ -53,14 +51,3 @@ zero-product q x y prime h =
   where
     reduced : q ∣ x % q * y
     reduced = dvd-of-mod-eq-zero q (same-mul (same-mod q x) same-refl .same ∙ h)
-
--- the same of a list: where the product of its entries is 0 modulo a prime, one of them is
-pub zero-multiply :
-    (q : ℕ) (xs : List ℕ) → Prime q → multiply xs % q ≡ 0 → (i : ℕ) × (i < length xs) × (getD xs i 1 % q ≡ 0)
-unfolding multiply
-zero-multiply q [] prime h = absurd (omega (arith, mod-eq-of-lt (prime .two)))
-zero-multiply q (x ∷ xs) prime h =
-    elim (zero-product q x (multiply xs) prime h) [
-      | inl e ↦ (0, omega arith, e)
-      | inr e ↦ let t = zero-multiply q xs prime e in (suc (t .0), omega (arith, t .1), t .2)
-    ]

@@ -1,12 +1,12 @@
 -- The hash of a list is the value at r of the polynomial whose coefficients are the list backwards. So two lists of n + 1 elements
 -- that differ modulo q have equal hashes at no more than n values of r, and the hash sees only remainders and is below q.
 -- Assumes nothing.
-use Prim.Native.Nat.{ℕ, _+_, _*_, _%_, _≤_, _<_}
+use Prim.Native.Nat.{ℕ, _+_, _*_, _%_, _≤_}
 use mathlib.Core.Path.{_≡_, refl, sym, _∙_, ap, ap₂, subst, fun-ext}
 use mathlib.Core.Logic.{_≢_}
 use mathlib.Core.List.{List, [], _∷_, reverse, reverseAux}
 use mathlib.Mathlib.Data.List.Basic.{reverse-injective, map-reverseAux}
-use native.Mathlib.Nat.{zero-mod, mod-lt, add-mod-mod}
+use native.Mathlib.Nat.{zero-mod}
 use native.Mathlib.Omega.{arith}
 use lib.Dec.{eqb}
 use lib.ListN.{length-reverse}
@@ -35,23 +35,6 @@ hashFrom-eval q r (x ∷ xs) cs = ap (λ (h : ℕ). hashFrom q r h xs) step ∙ 
 pub hash-eval : (q r : ℕ) (xs : List ℕ) → hash q r xs ≡ eval (reverse xs) r % q
 unfolding hash eval
 hash-eval q r xs = ap (λ (h : ℕ). hashFrom q r h xs) (sym (zero-mod q)) ∙ hashFrom-eval q r xs []
-
--- the hash is below q
-pub hash-below : (q r : ℕ) (xs : List ℕ) → 0 < q → hash q r xs < q
-hash-below q r xs l = rw (hash-eval q r xs) (mod-lt _ l)
-
--- the elements may be reduced first
-hashFrom-remainders : (q r h : ℕ) (xs : List ℕ) → hashFrom q r h xs ≡ hashFrom q r h (remainders q xs)
-unfolding hashFrom remainders
-hashFrom-remainders q r h [] = refl
-hashFrom-remainders q r h (x ∷ xs) =
-    hashFrom-remainders q r ((h * r + x) % q) xs ∙ ap (λ (k : ℕ). hashFrom q r k (remainders q xs)) (sym (add-mod-mod (h * r) x q))
-
--- the hash sees only remainders
-pub hash-remainders : (q r : ℕ) (xs ys : List ℕ) → remainders q xs ≡ remainders q ys → hash q r xs ≡ hash q r ys
-unfolding hash
-hash-remainders q r xs ys e =
-    hashFrom-remainders q r 0 xs ∙ (ap (hashFrom q r 0) e ∙ sym (hashFrom-remainders q r 0 ys))
 
 -- two lists of n + 1 elements that differ modulo q have equal hashes at no more than n values of r
 pub hash-bound : HashBound

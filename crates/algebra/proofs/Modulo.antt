@@ -6,7 +6,7 @@ use mathlib.Core.Path.{_≡_, refl, sym, _∙_, ap, ap₂}
 use native.Mathlib.Nat.{add-mod, mod-mod, mod-zero, zero-mod, mod-add-div, mod-lt, mod-eq-of-lt, mod-self, le-of-lt, add-sub-of-le, zero-lt-suc}
 use native.Mathlib.Nat.{add-mul-mod-self-left, mul-mod-right, mul-comm, add-right-cancel}
 use native.Mathlib.Omega.{arith}
-use Rattle.algebra.specs.Modulo.{Same, plus, minus, times}
+use Rattle.algebra.specs.Modulo.{Same, minus, times}
 
 -- equal numbers are the same modulo q
 pub same-of-eq : {q x y : ℕ} → x ≡ y → Same q x y
@@ -109,23 +109,7 @@ same-minus-add p x y =
     same-trans (same-add (same-minus p x y) same-refl)
     (same-trans (same-of-eq (omega arith)) (same-add-multiple (suc p) x y))
 
--- a difference is 0 just where the two are the same
-pub same-of-minus-zero : (p x y : ℕ) → minus (suc p) x y ≡ 0 → Same (suc p) x y
-same-of-minus-zero p x y e =
-    same-sym (same-trans (same-of-eq (omega arith)) (same-minus-add p x y))
-
-pub minus-zero-of-same : (p x y : ℕ) → Same (suc p) x y → minus (suc p) x y ≡ 0
-unfolding minus
-minus-zero-of-same p x y s = sym (mod-mod _ (suc p)) ∙ zero-of-same (same-cancel-right y cancelled)
-  where
-    cancelled : Same (suc p) (minus (suc p) x y + y) (0 + y)
-    cancelled = same-trans (same-minus-add p x y) (same-trans s (same-of-eq (omega arith)))
-
--- sums, differences and products modulo q see only what their arguments are modulo q
-pub plus-same : {q x x' y y' : ℕ} → Same q x x' → Same q y y' → plus q x y ≡ plus q x' y'
-unfolding plus
-plus-same s t = (same-add s t) .same
-
+-- differences and products modulo q see only what their arguments are modulo q
 pub minus-same : {q x x' y y' : ℕ} → Same q x x' → Same q y y' → minus q x y ≡ minus q x' y'
 unfolding minus
 minus-same {q} s t = (same-add s (same-of-eq (ap (λ (u : ℕ). q - u) (t .same)))) .same

@@ -1,11 +1,11 @@
 -- Lists that hold the same entries equally often: sums of a weight over a list, the laws of EquallyOften, and, where a test decides
 -- whether two entries are equal, an entry that occurs in a list can be taken out of it.
 -- Assumes nothing.
-use Prim.Native.Nat.{ℕ, suc, _+_, _*_, _≤_, _<_}
+use Prim.Native.Nat.{ℕ, suc, _+_, _<_}
 use mathlib.Core.Path.{_≡_, refl, sym, _∙_, ap, ap₂, subst}
 use mathlib.Core.Logic.{_⊎_, inl, inr, ⊎-elim, _≢_}
 use mathlib.Core.Bool.{Bool, true, false, _&&_}
-use mathlib.Core.List.{List, [], _∷_, _++_, map}
+use mathlib.Core.List.{List, [], _∷_, _++_}
 use native.Mathlib.Omega.{arith}
 use lib.Dec.{T, eqb, eqb→eq, eqb-refl}
 use lib.ListN.{length}
@@ -20,34 +20,13 @@ module _ {A : Type 0} where
   total-append weight [] ys = omega arith
   total-append weight (x ∷ xs) ys = omega (arith, total-append weight xs ys)
 
-  -- the sum of a sum of two weights
-  pub total-add : (f g : A → ℕ) (xs : List A) → total (λ x. f x + g x) xs ≡ total f xs + total g xs
-  unfolding total
-  total-add f g [] = omega arith
-  total-add f g (x ∷ xs) = omega (arith, total-add f g xs)
-
-  -- the sum of a multiple of a weight
-  pub total-scale : (c : ℕ) (f : A → ℕ) (xs : List A) → total (λ x. c * f x) xs ≡ c * total f xs
-  unfolding total
-  total-scale c f [] = omega arith
-  total-scale c f (x ∷ xs) = omega (arith, total-scale c f xs)
-
   -- the weight 1 counts the entries
   pub total-one : (xs : List A) → total (λ x. 1) xs ≡ length xs
   unfolding total
   total-one [] = refl
   total-one (x ∷ xs) = omega (arith, total-one xs)
 
-  -- a larger weight has a larger sum
-  pub total-monotone : (f g : A → ℕ) → ((x : A) → f x ≤ g x) → (xs : List A) → total f xs ≤ total g xs
-  unfolding total
-  total-monotone f g h [] = omega arith
-  total-monotone f g h (x ∷ xs) = omega (arith, h x, total-monotone f g h xs)
-
   -- an equivalence
-  pub often-refl : (xs : List A) → EquallyOften xs xs
-  often-refl xs weight = refl
-
   pub often-of-eq : {xs ys : List A} → xs ≡ ys → EquallyOften xs ys
   often-of-eq e weight = ap (total weight) e
 
@@ -65,15 +44,6 @@ module _ {A : Type 0} where
   pub often-cancel : (x : A) (xs ys : List A) → EquallyOften (x ∷ xs) (x ∷ ys) → EquallyOften xs ys
   unfolding total
   often-cancel x xs ys h weight = omega (arith, h weight)
-
-  -- lists joined
-  pub often-append : (xs ys us vs : List A) → EquallyOften xs ys → EquallyOften us vs → EquallyOften (xs ++ us) (ys ++ vs)
-  often-append xs ys us vs h k weight =
-      omega (arith, h weight, k weight, total-append weight xs us, total-append weight ys vs)
-
-  -- the order of two joined lists does not matter
-  pub often-swap : (xs ys : List A) → EquallyOften (xs ++ ys) (ys ++ xs)
-  often-swap xs ys weight = omega (arith, total-append weight xs ys, total-append weight ys xs)
 
   -- an entry from the middle of a list moved to its front
   pub often-move : (us : List A) (x : A) (vs : List A) → EquallyOften (us ++ (x ∷ vs)) (x ∷ (us ++ vs))
@@ -117,16 +87,6 @@ module _ {A : Type 0} where
   unfolding without
   length-without {x} p = ap length (p .parts) ∙ length-move (p .before) x (p .behind)
 
--- a weight of images
-pub total-map : {A B : Type 0} (f : A → B) (weight : B → ℕ) (xs : List A) → total weight (map f xs) ≡ total (λ x. weight (f x)) xs
-unfolding total
-total-map f weight [] = refl
-total-map f weight (x ∷ xs) = ap (λ (t : ℕ). weight (f x) + t) (total-map f weight xs)
-
--- images of entries that two lists hold equally often
-pub often-map : {A B : Type 0} (f : A → B) (xs ys : List A) → EquallyOften xs ys → EquallyOften (map f xs) (map f ys)
-often-map f xs ys h weight = total-map f weight xs ∙ (h (λ x. weight (f x)) ∙ sym (total-map f weight ys))
-
 -- the bit of a test
 bit-passed : (b : Bool) → T b → bit b ≡ 1
 unfolding bit
@@ -166,13 +126,9 @@ module _ {A : Type 0} (test : A → A → Bool) (sound : (x y : A) → T (test x
   occurs-absent x [] n = refl
   occurs-absent x (y ∷ ys) n = omega (arith, bit-failed (test x y) (λ t. n .0 (sound x y t)), occurs-absent x ys (n .1))
 
-  -- an entry that occurs is present, and one that occurs 0 times is absent
+  -- an entry that occurs is present
   pub occurs-present : (x : A) (ys : List A) → 0 < occurrences x ys → Present x ys
   occurs-present x ys h = ⊎-elim (λ p. p) (λ n. absurd (omega (arith, h, occurs-absent x ys n))) (find x ys)
-
-  pub absent-of-occurs : (x : A) (ys : List A) → occurrences x ys ≡ 0 → Absent x ys
-  unfolding occurrences
-  absent-of-occurs x ys e = ⊎-elim (λ p. absurd (omega (arith, e, often-without p (λ y. bit (test x y)), occurs-self x (without p)))) (λ n. n) (find x ys)
 
   -- the entry in front of one list occurs in every list that holds the same entries equally often
   pub present-often : (x : A) (xs ys : List A) → EquallyOften (x ∷ xs) ys → Present x ys

@@ -94,12 +94,6 @@ unfolding sums
 sums-additive q zero f g = refl
 sums-additive q (suc d) f g = sum-ext q _ _ (λ x l. sums-additive q d _ _) ∙ sum-additive q _ _
 
--- a factor comes out
-pub sums-scale : (q d k : ℕ) (f : List ℕ → ℕ) → sums q d (λ w. k * f w) ≡ k * sums q d f
-unfolding sums
-sums-scale q zero k f = refl
-sums-scale q (suc d) k f = sum-ext q _ _ (λ x l. sums-scale q d k _) ∙ sum-scale q k _
-
 -- a constant is taken q ^ d times
 pub sums-constant : SumsConstant
 unfolding sums
@@ -164,10 +158,6 @@ pub counts-all : (q d : ℕ) (P : List ℕ → Bool) → counts q d P ≤ q ^ d
 unfolding counts
 counts-all q d P =
     le-trans (sums-monotone q d _ (λ w. 1) (λ w. bit-one (P w))) (le-of-eq (sums-constant q d 1 ∙ one-mul (q ^ d)))
-
-pub count-all : (n : ℕ) (P : ℕ → Bool) → count n P ≤ n
-unfolding count
-count-all n P = le-trans (sum-monotone n _ (λ x. 1) (λ x l. bit-one (P x))) (le-of-eq (sum-constant n 1 ∙ one-mul n))
 
 -- a test that fails everywhere is passed by none
 count-none : (n : ℕ) (P : ℕ → Bool) → ((x : ℕ) → x < n → P x ≡ false) → count n P ≡ 0

@@ -1,9 +1,7 @@
 -- The hash of a sequence of elements: Horner's rule modulo q.
 -- Assumes nothing.
 use Prim.Native.Nat.{ℕ, _+_, _*_, _%_}
-use mathlib.Core.Bool.{Bool}
 use mathlib.Core.List.{List, [], _∷_}
-use lib.Dec.{eqb}
 
 -- from the hash h, each element x makes it h · r + x
 unfoldable pub hashFrom : ℕ → ℕ → ℕ → List ℕ → ℕ

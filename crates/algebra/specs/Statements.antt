@@ -1,10 +1,11 @@
 -- What is shown of the definitions, each statement for any prime q. proofs/ has a proof of each, under the name that the comment gives.
 -- Assumes nothing.
-use Prim.Native.Nat.{ℕ, zero, suc, _+_, _-_, _*_, _^_, _%_, _≤_, _<_}
+-- must-fail/shuffle_bound_one_less.edit uses `_-_`
+use Prim.Native.Nat.{ℕ, suc, _+_, _-_, _*_, _^_, _%_, _≤_, _<_}
 use mathlib.Core.Path.{_≡_}
 use mathlib.Core.Logic.{_⊎_, _≢_}
 use mathlib.Core.Bool.{Bool, false, _||_}
-use mathlib.Core.List.{List, [], _∷_}
+use mathlib.Core.List.{List}
 use lib.Dec.{eqb, T}
 use lib.ListN.{length}
 use Rattle.algebra.specs.Sum.{count, counts, sums}

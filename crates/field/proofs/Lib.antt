@@ -1,4 +1,3 @@
 pub mod Fold
 pub mod Width
 pub mod Reduction
-pub mod Factor

@@ -20,7 +20,7 @@ use Rattle.memory.specs.Bytes.{Line, allBelow}
 use Rattle.memory.specs.Rows.{limit, sized, allowed}
 use Rattle.memory.specs.File.{firstFault, parseRows, valuesFault}
 use Rattle.memory.specs.Plain.{right}
-use Rattle.memory.specs.Bound.{accepts, challenges, malformed, degree, rowsIn, traceIn, Advised}
+use Rattle.memory.specs.Bound.{accepts, challenges, malformed, degree, rowsIn, traceIn}
 use Rattle.memory.specs.Statements.{Holds, Demand, DemandAt, DemandThree}
 use Rattle.memory.proofs.Balance.{challenges-none}
 use Rattle.memory.proofs.ReadRows.{both-pass, chosen-zero, lines-below}

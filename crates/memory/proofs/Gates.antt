@@ -2,8 +2,8 @@
 -- Assumes nothing.
 use Prim.Native.Nat.{ℕ, _+_, _-_, _*_}
 use native.Mathlib.Omega.{arith}
-use mathlib.Core.Path.{_≡_, refl, sym, _∙_, ap, ap₂}
-use mathlib.Core.Bool.{true, false, cond}
+use mathlib.Core.Path.{_≡_, refl, sym, _∙_, ap}
+use mathlib.Core.Bool.{true, cond}
 use mathlib.Core.List.{List, [], _∷_, _++_}
 use lib.Dec.{leb}
 use lib.ListN.{length}
@@ -90,18 +90,6 @@ tally-parts f q m n t rows p =
       tally-only f m Ending End (p .ends) refl (p .ending),
       tally-only f m Ranging Range (p .ranges) refl (p .ranging) ∙ ap (λ (k : ℕ). k * f Range) (p .ages),
     )
-
--- the pops and dequeues are among the operations
-with-parts : (o : Op) (q : ℕ) (m : Memory) (n t : ℕ) (rows : List Row) (p : Parts q m n t rows) → isOp Init o ≡ false → isOp End o ≡ false → isOp Range o ≡ false
-    → rowsWith o rows ≡ rowsWith o (p .ops)
-unfolding oneOf
-with-parts o q m n t rows p i e r =
-    let zeros : (n * oneOf o Init + (tally (oneOf o) (p .ops) + (length (p .ends) * oneOf o End + rangesDue m t * oneOf o Range))) ≡ tally (oneOf o) (p .ops) = rw (i, e, r) (omega arith) in
-    tally-with o rows ∙ (tally-parts (oneOf o) q m n t rows p ∙ (zeros ∙ sym (tally-with o (p .ops))))
-
-pub parts-takes : (q : ℕ) (m : Memory) (n t : ℕ) (rows : List Row) (p : Parts q m n t rows) → takes rows ≡ takes (p .ops)
-unfolding takes isOp opCode
-parts-takes q m n t rows p = ap₂ _+_ (with-parts Pop q m n t rows p refl refl refl) (with-parts Dequeue q m n t rows p refl refl refl)
 
 -- the same where the operations have one op
 pub parts-only : (f : Op → ℕ) (q : ℕ) (m : Memory) (n t : ℕ) (x : Op) (rows : List Row) (p : Parts q m n t rows) → opsDue m Operating ≡ x ∷ []

@@ -14,7 +14,6 @@ use Rattle.algebra.specs.Multiset.{EquallyOften}
 use Rattle.algebra.specs.Hash.{hash}
 use Rattle.memory.specs.declared.Memory.{Memory}
 use Rattle.memory.specs.declared.Memory.the-variants.{Ram, Rom, Set, Stack, Queue}
-use Rattle.memory.specs.declared.Op.the-variants.{Other}
 use Rattle.memory.specs.declared.Phase.{Phase}
 use Rattle.memory.specs.declared.Phase.the-variants.{Starting, Operating, Ending, Ranging}
 use Rattle.memory.specs.declared.Row.{Row}
@@ -22,7 +21,6 @@ use Rattle.memory.specs.declared.Parsed.{Parsed}
 use Rattle.memory.specs.declared.Parsed.the-variants.{Sound, Fault}
 use Rattle.memory.specs.declared.Challenge.{Challenge}
 use Rattle.memory.specs.Bytes.{Line, allBelow}
-use Rattle.memory.specs.Names.{opCode, isOp}
 use Rattle.memory.specs.Rows.{allowed, opsDue, opIn}
 use Rattle.memory.specs.Equations.{Lists, listsOf, shuffleLists, rangedLists, fileLists, rangeBalances, memoryBalances}
 use Rattle.memory.specs.File.{noRow, parsedRow, rowsOf, parseRows, Refusal, refusal, firstFault, valuesFault}
@@ -165,7 +163,7 @@ values-pass q m n t ch below fit elements =
     let count = both-pass (ltb t q) true (size .1) in
     rw (size .0, count .0, elements, fit)
 
--- "and if it is right and the advice is the filler's, all p⁴ do": the advice decides, since the filler fills no other runs
+-- rows whose advice is the filler's meet the equations at every challenge; that the trace is right need not be supposed, since the filler fills no other runs
 pub advised-holds : (q : ℕ) (m : Memory) (n t : ℕ) (lines : List Line) → Prime q → t + 1 < q → malformed q m n t lines ≡ false → Advised q m n t (rowsIn q lines)
     → (ch : Challenge) → allBelow q (ch .r ∷ ch .a ∷ ch .b ∷ ch .c ∷ []) ≡ true → Holds q m n t ch lines
 advised-holds q m n t lines prime room formed a ch elements =

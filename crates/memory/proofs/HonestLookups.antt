@@ -204,15 +204,6 @@ possible-inside cells (i ∷ ops) e =
     let both = possible-look cells i ops e in
     (ltb-true (i .addr) (length cells) (both .0), possible-inside cells ops (both .1))
 
--- the honest looks of possible inputs fit
-pub rom-honest-fits : (cells keys : List ℕ) (ops : List Input) → possible Rom cells ops ≡ true → allFit cells (map (operationOf Rom) (romOps cells keys ops)) ≡ true
-unfolding romOps romRow honest allFit fits after operationOf filledRow
-rom-honest-fits cells keys [] e = refl
-rom-honest-fits cells keys (i ∷ ops) e =
-    let both = possible-look cells i ops e in
-    let content = getD cells (i .addr) 0 in
-    ap₂ _&&_ (ap₂ _&&_ (both .0) (eq-eqb content content refl)) (rom-honest-fits cells (i .addr ∷ keys) ops (both .1))
-
 -- the state of the cell at an address
 cellState : List ℕ → ℕ → ℕ → Triple
 cellState cells a v = triple a (getD cells a 0) v
@@ -316,14 +307,6 @@ possible-among elements [] e = tt
 possible-among elements (i ∷ ops) e =
     let both = possible-member elements i ops e in
     (both .0, possible-among elements ops (both .1))
-
--- the honest members of possible inputs fit
-pub set-honest-fits : (elements keys : List ℕ) (ops : List Input) → possible Set elements ops ≡ true → allFit elements (map (operationOf Set) (setOps keys ops)) ≡ true
-unfolding setOps setRow honest allFit fits after operationOf filledRow
-set-honest-fits elements keys [] e = refl
-set-honest-fits elements keys (i ∷ ops) e =
-    let both = possible-member elements i ops e in
-    ap₂ _&&_ (both .0) (set-honest-fits elements (i .value ∷ keys) ops (both .1))
 
 -- "equal set elements give all lookups to the first": the version of the element v behind the elements `earlier`
 ownVersion : List ℕ → ℕ → List ℕ → ℕ

@@ -400,7 +400,7 @@ lines-unrefused q m n t lines two e fit =
     (subst (DueRows m Operating) (sym (parts-ops q m n t rows p)) (p .operating))
     fit
 
--- "A run that the rules refuse is not right."
+-- A run that the rules refuse is not right.
 pub refused-not-right : RefusedNotRight
 refused-not-right q m n t lines two e refused = go (right (traceIn q m n t lines)) refl
   where

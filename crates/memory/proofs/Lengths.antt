@@ -2,7 +2,7 @@
 -- Assumes nothing.
 use mathlib.Core.Path.{_≡_, refl}
 use mathlib.Core.Bool.{Bool, true, false, _&&_}
-use mathlib.Core.List.{List, [], _∷_, _++_}
+use mathlib.Core.List.{List, [], _∷_}
 use Prim.Native.Nat.{ℕ, _+_, _*_, _≤_}
 use native.Mathlib.Omega.{arith}
 use lib.Dec.{ltb}
@@ -11,11 +11,10 @@ use borrow.Author.Tests.{ltb-true}
 use Rattle.memory.specs.declared.Op.{Op}
 use Rattle.memory.specs.declared.Op.the-variants.{Init, Access, Look, Member, Push, Pop, Enqueue, Dequeue, End, Range, Other}
 use Rattle.memory.specs.declared.Row.{Row}
-use Rattle.memory.specs.declared.Report.{Report}
 use Rattle.memory.specs.Text.{bytes}
 use Rattle.memory.specs.Bytes.{comma, feed, allBelow}
-use Rattle.memory.specs.Names.{opName, reportNames, refusalNames}
-use Rattle.memory.specs.Print.{numberText, numbersText, rowText, reportText, refusalText}
+use Rattle.memory.specs.Names.{opName}
+use Rattle.memory.specs.Print.{numberText, numbersText, rowText}
 use Rattle.memory.proofs.Decimal.{tenDigits, number-length}
 
 -- both of two tests that hold together hold
@@ -60,13 +59,3 @@ row-length row h =
     let rest : List ℕ = row .addr ∷ row .value ∷ row .old ∷ row .time ∷ row .version ∷ [] in
     omega
     (arith, length-append (opName (row .op)) (comma ∷ numbersText (row .guard) rest), name-length (row .op), numbers-length (row .guard) rest h)
-
--- the two lines of a report
-pub report-length : (r : Report) → allBelow tenDigits (r .answer ∷ r .line ∷ r .inputs ∷ r .mults ∷ []) ≡ true → length (reportText r) ≤ 69
-unfolding reportText reportNames bytes
-report-length r h = omega (arith, numbers-length (r .answer) (r .line ∷ r .inputs ∷ r .mults ∷ []) h)
-
--- the two lines of a refusal
-pub refusal-length : (answer line : ℕ) → allBelow tenDigits (answer ∷ line ∷ []) ≡ true → length (refusalText answer line) ≤ 34
-unfolding refusalText refusalNames bytes
-refusal-length answer line h = omega (arith, numbers-length answer (line ∷ []) h)

@@ -4,7 +4,7 @@
 use Prim.Native.Nat.{ℕ, zero, suc, _≤_}
 use mathlib.Core.Path.{_≡_, refl, sym, _∙_, ap, subst}
 use mathlib.Core.Bool.{Bool, true, false, _||_, false≢true}
-use mathlib.Core.List.{List, [], _∷_, map}
+use mathlib.Core.List.{List, [], _∷_}
 use native.Mathlib.Omega.{arith}
 use lib.Dec.{leb}
 use borrow.Author.Tests.{eqb-true, leb-true}
@@ -17,7 +17,7 @@ use Rattle.memory.specs.declared.Phase.the-variants.{Starting, Operating
 use Rattle.memory.specs.declared.Row.{Row}
 use Rattle.memory.specs.Names.{opCode, isOp}
 use Rattle.memory.specs.Rows.{opsDue, opIn}
-use Rattle.memory.specs.Honest.{Input, inputOf}
+use Rattle.memory.specs.Honest.{Input}
 
 -- each row's op is due among the operations of the memory, and its guard is 0 or 1
 abbrev pub Ops : Memory → List Row → Type 0
@@ -28,12 +28,6 @@ Ops m (row ∷ rows) = (opIn (row .op) (opsDue m Operating) ≡ true) × (leb (r
 abbrev pub Inputs : Memory → List Input → Type 0
 Inputs m [] = Unit {0}
 Inputs m (i ∷ is) = (opIn (i .op) (opsDue m Operating) ≡ true) × (leb (i .guard) 1 ≡ true) × Inputs m is
-
--- what a row takes from the filler's input is as the row
-pub inputs-of-ops : (m : Memory) (rows : List Row) → Ops m rows → Inputs m (map inputOf rows)
-unfolding inputOf
-inputs-of-ops m [] h = tt
-inputs-of-ops m (row ∷ rows) h = (h .0, h .1, inputs-of-ops m rows (h .2))
 
 -- the op that a number stands for
 opOfCode : ℕ → Op

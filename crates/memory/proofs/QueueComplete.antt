@@ -2,7 +2,7 @@
 -- operation is possible, the elements enqueued are those dequeued and then those of the end rows, as many as the depth, no depth factor
 -- is 0, and every operation fits. And a right trace is possible, and its filled rows have the same operations.
 -- Assumes nothing.
-use Prim.Native.Nat.{ℕ, suc, _+_, _-_, _≤_, _<_}
+use Prim.Native.Nat.{ℕ, suc, _+_, _-_, _<_}
 use mathlib.Core.Path.{_≡_, refl, sym, _∙_, ap, ap₂}
 use mathlib.Core.Logic.{_≢_}
 use mathlib.Core.Bool.{Bool, true, false, cond, false≢true, and-eq-true-iff}
@@ -160,10 +160,6 @@ pub queue-balance :
     → enqueues (queueOpRows is) ≡ dequeues (queueOpRows is) ++ endOlds (queueEndRows is)
 queue-balance is due can =
     complete-from is due [] can .equal ∙ ap (λ (l : List ℕ). dequeues (queueOpRows is) ++ l) (sym (queue-olds (queueFinal [] is)))
-
--- the depth is not below 0,
-pub queue-not-below : (is : List Input) → Inputs Queue is → possible Queue [] is ≡ true → lowered (queueOpRows is) ≤ raised (queueOpRows is)
-queue-not-below is due can = omega (arith, complete-from is due [] can .depth)
 
 -- there are as many end rows as the depth,
 pub queue-ends-due :

@@ -15,13 +15,12 @@ use Rattle.algebra.proofs.Multiset.{total-append}
 use Rattle.memory.specs.declared.Memory.the-variants.{Ram}
 use Rattle.memory.specs.declared.Row.{Row}
 use Rattle.memory.specs.Equations.{Triple, triple, Lookup, initWrites, accessRead, newOf, accessWrites, accessLookups, cellEnds, rangeSetup, rangeRead, rangeWrite, rangeEnds}
-use Rattle.memory.specs.Plain.{store, load, after, allFit, operationOf}
+use Rattle.memory.specs.Plain.{store, load, after, operationOf}
 use Rattle.memory.specs.Honest.{Input, inputOf, filledRow, bare, endRow, occurrences, rangeRowsFrom, Cell, cell, cellAt, ramAge, ramRow, ramCells, ramEnds, ramFrom, impossible, inputOperation, possible, operationsFilled}
-use Rattle.memory.proofs.Ages.{InRange}
 use Rattle.memory.proofs.Clock.{age-of-earlier}
 use Rattle.memory.proofs.HonestLookups.{honest, keysAfter, honestLookups, agesAfter, AgesIn, range-complete}
-use Rattle.memory.proofs.HonestAges.{Before, before-later, lookups-in-range}
-use Rattle.memory.proofs.RamCells.{contents, cellRecord, cellRecords, startCells, start-contents, start-records, Reads, accessed, access-exchange, access-length, access-fits, access-after, Balanced}
+use Rattle.memory.proofs.HonestAges.{Before, before-later}
+use Rattle.memory.proofs.RamCells.{cellRecord, cellRecords, startCells, start-records, Reads, accessed, access-exchange, access-length, Balanced}
 
 -- the honest operation rows from a clock on, over the ages looked up before
 unfoldable pub ramOps : List Cell → ℕ → List ℕ → List Input → List Row
@@ -153,17 +152,6 @@ honest-balanced cells clock ages (i ∷ is) w weight =
       ap (λ (cs : List Cell). total weight (cellRecords 0 cs)) (honest-accessed cells clock ages i),
     )
 
--- the honest accesses fit
-honest-fits : (cells : List Cell) (clock : ℕ) (ages : List ℕ) (is : List Input) → Within (length cells) is
-    → allFit (contents cells) (map (operationOf Ram) (ramOps cells clock ages is)) ≡ true
-unfolding ramOps allFit
-honest-fits cells clock ages [] w = refl
-honest-fits cells clock ages (i ∷ is) w =
-    let row = ramRow cells clock ages i in
-    let reads = honest-reads cells clock ages i (w .0) in
-    rw (access-fits cells row reads, access-after clock cells row reads, honest-accessed cells clock ages i)
-    (honest-fits (ramCells cells clock i) (suc clock) (ramAge cells clock i ∷ ages) is (within-cells cells clock i is (w .1)))
-
 before-at : (clock : ℕ) (cells : List Cell) (k : ℕ) → 1 ≤ clock → Before clock cells → cellAt cells k .time < clock
 unfolding cellAt cell
 before-at clock [] k started b = started
@@ -242,9 +230,6 @@ ram-op-rows-length values ops = ops-length (startCells values) 1 [] ops
 pub ram-end-rows-length : (values : List ℕ) (ops : List Input) → length (ramEndRows values ops) ≡ length values
 ram-end-rows-length values ops = ends-length (startCells values) 1 ops ∙ length-map values (λ v. cell v 0)
 
-pub ram-range-rows-length : (t : ℕ) (values : List ℕ) (ops : List Input) → length (ramRangeRows t values ops) ≡ t
-ram-range-rows-length t values ops = ranges-length 1 t (ramFinalAges (startCells values) 1 [] ops)
-
 -- possible accesses have addresses of the cells at the start
 start-within : (values : List ℕ) (is : List Input) → possible Ram values is ≡ true → Within (length (startCells values)) is
 start-within values is e = subst (λ (n : ℕ). Within n is) (sym (length-map values (λ v. cell v 0))) (possible-within values is e)
@@ -278,21 +263,12 @@ ram-complete inits ops e weight =
     starting : initWrites 0 (map bare inits) ≡ cellRecords 0 (startCells values)
     starting = start-records 0 (map bare inits) ∙ ap (λ (vs : List ℕ). cellRecords 0 (startCells vs)) (bare-values inits)
 
--- the trace of the honest rows is right
-pub ram-complete-right : (values : List ℕ) (ops : List Input) → possible Ram values ops ≡ true → allFit values (map (operationOf Ram) (ramOpRows values ops)) ≡ true
-ram-complete-right values ops e = rw (start-contents values) at (honest-fits (startCells values) 1 [] ops (start-within values ops e))
-
 -- the lookups of the honest rows, by the ages clock − time
 pub ram-lookups : (q : ℕ) (values : List ℕ) (ops : List Input) → length ops < q → accessLookups q 1 (ramOpRows values ops) ≡ honestLookups [] (ramAges (startCells values) 1 ops)
 ram-lookups q values ops below = honest-ram-lookups q (startCells values) 1 [] ops (omega arith) (omega arith) (before-start values)
 
 pub ram-ages-in : (t : ℕ) (values : List ℕ) (ops : List Input) → length ops ≡ t → AgesIn t (ramAges (startCells values) 1 ops)
 ram-ages-in t values ops count = honest-ages-in t (startCells values) 1 ops (omega arith) (omega arith) (before-start values)
-
--- the ages lie in the range
-pub ram-in-range : (q t : ℕ) (values : List ℕ) (ops : List Input) → length ops ≡ t → t < q → InRange t (accessLookups q 1 (ramOpRows values ops))
-ram-in-range q t values ops count below =
-    rw (ram-lookups q values ops (omega arith)) (lookups-in-range t [] (ramAges (startCells values) 1 ops) (ram-ages-in t values ops count))
 
 -- the range's shuffle: the pairs supplied are the pairs looked up and ended
 pub ram-range-complete : (q t : ℕ) (values : List ℕ) (ops : List Input) → length ops ≡ t → t < q

@@ -1,20 +1,20 @@
 -- Rows that are printed read back: a text's lines and fields, and the row that a row's line reads as.
 -- Assumes nothing.
 use mathlib.Core.Path.{_≡_, refl, sym, ap, ap₂, _∙_}
-use mathlib.Core.Bool.{Bool, true, false, _&&_, not, cond}
+use mathlib.Core.Bool.{Bool, true, false, _&&_}
 use mathlib.Core.List.{List, [], _∷_, _++_, map, append-assoc, append-nil}
-use Prim.Native.Nat.{ℕ, zero, suc, _+_, _*_, _≤_, _<_}
+use Prim.Native.Nat.{ℕ, _≤_, _<_}
 use native.Mathlib.Omega.{arith}
 use lib.Dec.{eqb, leb, ltb}
-use lib.ListN.{length, getD, drop, length-append}
+use lib.ListN.{length, length-append}
 use borrow.Author.Tests.{ne-eqb, leb-true, ltb-true, lt-ltb, le-leb}
 use Rattle.memory.specs.declared.Op.{Op}
 use Rattle.memory.specs.declared.Op.the-variants.{Init, Access, Look, Member, Push, Pop, Enqueue, Dequeue, End, Range, Other}
 use Rattle.memory.specs.declared.Row.{Row}
 use Rattle.memory.specs.declared.Parsed.{Parsed}
-use Rattle.memory.specs.declared.Parsed.the-variants.{Sound, Fault}
+use Rattle.memory.specs.declared.Parsed.the-variants.{Sound}
 use Rattle.memory.specs.Text.{bytes}
-use Rattle.memory.specs.Bytes.{Line, longest, fitting, comma, feed, same, onto, fields, digit, digits, decimalFrom, numeral, numerals, numbers, allBelow, before, linesOf}
+use Rattle.memory.specs.Bytes.{Line, longest, fitting, comma, feed, same, onto, fields, digit, digits, numerals, numbers, allBelow, before, linesOf}
 use Rattle.memory.specs.Names.{opName, opNamed, opCode, isOp}
 use Rattle.memory.specs.Rows.{rowOfFields, parseRow}
 use Rattle.memory.specs.Print.{numberText, numbersText, rowText, rowsText}

@@ -10,7 +10,7 @@ use mathlib.Core.List.{List, [], _∷_, _++_, map}
 use native.Mathlib.Omega.{arith}
 use lib.Dec.{eqb}
 use lib.ListN.{length, drop, length-append}
-use borrow.Author.Tests.{eq-eqb, eqb-true}
+use borrow.Author.Tests.{eqb-true}
 use Rattle.algebra.specs.Modulo.{minus}
 use Rattle.algebra.specs.Multiset.{total, EquallyOften}
 use Rattle.algebra.proofs.Multiset.{total-append}
@@ -95,12 +95,6 @@ stack-filled cells clock ages t (i ∷ is) =
     ∙ ap {B = List Row} (λ rows. stackRow cells clock ages i ∷ rows)
     (stack-filled (stackCells cells clock i) (stackClock clock i) (agesAfter ages (stackAge cells clock i)) t is)
 
--- op and guard are copied
-pub stack-ops : (cells : List Cell) (clock : ℕ) (ages : List ℕ) (is : List Input) → Inputs Stack is → Ops Stack (stackOps cells clock ages is)
-unfolding stackOps stackRow filledRow
-stack-ops cells clock ages [] due = tt
-stack-ops cells clock ages (i ∷ is) due = (due .0, due .1, stack-ops _ _ _ is (due .2))
-
 -- the operation rows are filled from the inputs,
 pub stack-inputs : (cells : List Cell) (clock : ℕ) (ages : List ℕ) (is : List Input) → map inputOf (stackOps cells clock ages is) ≡ is
 unfolding stackOps stackRow filledRow inputOf
@@ -181,8 +175,6 @@ record Filled (q t : ℕ) (cells : List Cell) (up down clock : ℕ) (ages : List
   balance : Balanced q cells up down (stackOps cells clock ages is) (stackRecords (stackFinalCells cells clock is))
   -- the depth
   depth : length cells + raised (stackOps cells clock ages is) ≡ lowered (stackOps cells clock ages is) + length (stackFinalCells cells clock is)
-  -- every operation fits
-  fit : allFit (stacked cells) (map (operationOf Stack) (stackOps cells clock ages is)) ≡ true
   -- the lookups are those of the ages
   lookups : popLookups q up (stackOps cells clock ages is) ≡ honestLookups ages (stackAges cells clock is)
   -- which are in the range
@@ -221,7 +213,6 @@ complete-push q t i is room rest cells up down clock ages depth ticks left befor
     record {
       balance = λ weight. omega (arith, r .balance weight, ap₂ (λ (h c : ℕ). weight (triple h (i .value) c)) height (sym ticks));
       depth = omega (arith, r .depth);
-      fit = r .fit;
       lookups = r .lookups;
       range = r .range;
     }
@@ -232,7 +223,7 @@ unfolding inputAt isOp opCode raiseBy lowerBy raised lowered pushWrite pushWrite
 complete-skipped-push q t i is rest cells up down clock ages depth ticks left before can =
     let earlier = before-later clock (clock + 0) cells (omega arith) before in
     let r = rest cells (up + 0) (down + 0) (clock + 0) ages (omega arith) (omega arith) (omega arith) earlier can in
-    record { balance = r .balance; depth = omega (arith, r .depth); fit = r .fit; lookups = r .lookups; range = r .range }
+    record { balance = r .balance; depth = omega (arith, r .depth); lookups = r .lookups; range = r .range }
 
 -- a skipped pop looks up the age 1
 complete-skipped-pop : (q t : ℕ) (i : Input) (is : List Input) → t + 1 < q → Complete q t is → Complete q t (inputAt Pop 0 i ∷ is)
@@ -243,7 +234,6 @@ complete-skipped-pop q t i is room rest cells up down clock ages depth ticks lef
     record {
       balance = r .balance;
       depth = omega (arith, r .depth);
-      fit = r .fit;
       lookups = lookup-cons _ age ages _ _ (age-exact q up clock (clock - 1) ticks (omega arith) (omega arith)) (r .lookups);
       range = ((omega arith, omega arith), r .range);
     }
@@ -260,7 +250,6 @@ complete-pop q t i is room rest (c ∷ cells) up down clock ages depth ticks lef
     record {
       balance = λ weight. omega (arith, r .balance weight, ap (λ (h : ℕ). weight (triple h (c .content) (c .time))) height);
       depth = omega (arith, r .depth);
-      fit = rw (pop-top c cells (c .content), eq-eqb (c .content) (c .content) refl, pop-after c cells (c .content)) (r .fit);
       lookups = lookup-cons _ age ages _ _ (age-exact q up clock (c .time) ticks (omega arith) (before .0)) (r .lookups);
       range = ((omega (arith, before .0), omega arith), r .range);
     }
@@ -270,7 +259,7 @@ complete-from : (q t : ℕ) (is : List Input) → t + 1 < q → Inputs Stack is 
 unfolding raised lowered total pushWrites popReads popLookups allFit stackOps stackAges stackFinalCells opsDue honestLookups honest
 complete-from q t [] room due =
     λ cells up down clock ages depth ticks left before can.
-    record { balance = λ weight. omega arith; depth = omega arith; fit = refl; lookups = refl; range = tt }
+    record { balance = λ weight. omega arith; depth = omega arith; lookups = refl; range = tt }
 complete-from q t (i ∷ is) room due =
     let rest : Complete q t is = complete-from q t is room (due .2) in
     input-cases (λ (j : Input). Complete q t (j ∷ is)) Push Pop i
@@ -310,12 +299,6 @@ stack-balance q t is room count due can weight =
       ends-records weight (stackFinalCells [] 1 is),
     )
 
--- the lookups are those of the ages, each with the number of earlier lookups of the same age,
-pub stack-lookups :
-    (q t : ℕ) (is : List Input) → t + 1 < q → length is ≡ t → Inputs Stack is → possible Stack [] is ≡ true
-    → popLookups q 0 (stackOpRows is) ≡ honestLookups [] (stackAges [] 1 is)
-stack-lookups q t is room count due can = complete q t is room count due can .lookups
-
 -- the ages are in the range,
 pub stack-in-range :
     (q t : ℕ) (is : List Input) → t + 1 < q → length is ≡ t → Inputs Stack is → possible Stack [] is ≡ true
@@ -342,21 +325,13 @@ stack-not-below is due can =
     let t = length is in
     omega (arith, complete (t + 2) t is (omega arith) refl due can .depth)
 
--- there are as many end rows as the depth,
+-- and there are as many end rows as the depth
 pub stack-ends-due :
     (is : List Input) → Inputs Stack is → possible Stack [] is ≡ true
     → length (stackEndRows is) ≡ raised (stackOpRows is) - lowered (stackOpRows is)
 stack-ends-due is due can =
     let t = length is in
     omega (arith, complete (t + 2) t is (omega arith) refl due can .depth, ends-length (stackFinalCells [] 1 is))
-
--- and every operation fits
-pub stack-fits :
-    (is : List Input) → Inputs Stack is → possible Stack [] is ≡ true → allFit [] (map (operationOf Stack) (stackOpRows is)) ≡ true
-unfolding stacked
-stack-fits is due can =
-    let t = length is in
-    complete (t + 2) t is (omega arith) refl due can .fit
 
 -- of rows whose operations fit: they are possible, and the filled rows have the same operations
 record Refilled (cells : List Cell) (clock : ℕ) (ages : List ℕ) (rows : List Row) : Type 0 where

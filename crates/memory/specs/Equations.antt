@@ -1,10 +1,11 @@
 -- Section "The equations" of document 01: for each memory the lists of records written and read, of range pairs, and of hashed elements, as functions of
--- the rows; the factor of a record, the products, and when a shuffle balances. Every list takes the modulus q, document 01's p.
+-- the rows; the factor of a record, the products, and when a shuffle balances. A modulus q is document 01's p.
 -- Assumes nothing.
+-- must-fail/range_from_zero.edit uses `_-_`, must-fail/stack_range_of_pops.edit uses `length`
 use Prim.Native.Nat.{ℕ, zero, suc, _+_, _-_, _*_}
-use mathlib.Core.Bool.{Bool, true, false, _&&_, _||_, not, cond}
+use mathlib.Core.Bool.{Bool, _&&_, cond}
 use mathlib.Core.List.{List, [], _∷_, _++_, map}
-use lib.Dec.{eqb, leb, ltb}
+use lib.Dec.{eqb}
 use lib.ListN.{length, take, drop}
 use Rattle.algebra.specs.Modulo.{plus, minus, times}
 use Rattle.algebra.specs.Hash.{hash}

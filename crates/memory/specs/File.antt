@@ -1,10 +1,10 @@
 -- The whole file: from its bytes to answer, line, inputs and multiplications. Sections "The numbers" and "Files" of document 01.
 -- Assumes nothing.
-use Prim.Native.Nat.{ℕ, zero, suc, _+_}
-use mathlib.Core.Bool.{Bool, true, false, _&&_, cond}
+use Prim.Native.Nat.{ℕ, _+_}
+use mathlib.Core.Bool.{cond}
 use mathlib.Core.Option.{Option, none, some}
 use mathlib.Core.List.{List, [], _∷_, _++_, map}
-use lib.Dec.{eqb, leb, ltb}
+use lib.Dec.{eqb, ltb}
 use lib.ListN.{length, getD, drop}
 use Rattle.memory.specs.declared.Memory.{Memory}
 use Rattle.memory.specs.declared.Op.the-variants.{Other}
@@ -66,7 +66,7 @@ balanceReport q m n t ch rows =
     (cond (memoryBalances q ch l) (accepted m rows) (refused 10 (length rows + 3)))
     (refused 9 (length rows + 3))
 
--- "9 and 10 are looked for only if there is none" of the faults 1 to 8
+-- 9 and 10 are looked for only where no line is refused
 unfoldable pub rowsReport : ℕ → Memory → ℕ → ℕ → Challenge → List Parsed → Report
 rowsReport q m n t ch xs =
     let f = firstFault q m n t [] xs in

@@ -1,7 +1,7 @@
 -- The filling program: from the bytes of its input to the bytes that it prints. Section "The filler" of document 01.
 -- Assumes nothing.
-use Prim.Native.Nat.{ℕ, zero, suc, _+_}
-use mathlib.Core.Bool.{Bool, true, false, _&&_, cond}
+use Prim.Native.Nat.{ℕ, suc, _+_}
+use mathlib.Core.Bool.{Bool, _&&_, cond}
 use mathlib.Core.Option.{Option, none, some}
 use mathlib.Core.List.{List, [], _∷_, _++_, map}
 use lib.Dec.{eqb, leb, ltb}
@@ -13,7 +13,7 @@ use Rattle.memory.specs.Names.{fillNames, inputNames, memoryNamed, opNam
 use Rattle.memory.specs.Rows.{allowed, opsDue}
 use Rattle.memory.specs.File.{Refusal, refusal, namesFault}
 use Rattle.memory.specs.Honest.{Input, filledRows}
-use Rattle.memory.specs.Filler.{Placed, inputFault, rowsFault}
+use Rattle.memory.specs.Filler.{inputFault, rowsFault}
 use Rattle.memory.specs.Print.{refusalText, filledText}
 
 -- "The filling program takes size and count up to 128; above is 4."

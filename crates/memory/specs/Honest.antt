@@ -1,17 +1,17 @@
 -- The honest prover's rules: section "The filler" of document 01. From the init rows and operations to the rows of the file, or the refusal 11, 12 or 13.
 -- Assumes nothing.
-use Prim.Native.Nat.{ℕ, zero, suc, _+_, _-_, _*_}
-use mathlib.Core.Bool.{Bool, true, false, _&&_, _||_, cond}
+use Prim.Native.Nat.{ℕ, zero, suc, _+_, _-_}
+use mathlib.Core.Bool.{Bool, true, _&&_, cond}
 use mathlib.Core.List.{List, [], _∷_, _++_, map}
-use lib.Dec.{eqb, leb, ltb}
-use lib.ListN.{length, getD, take, drop, set}
+use lib.Dec.{eqb, ltb}
+use lib.ListN.{length, getD, drop, set}
 use Rattle.memory.specs.declared.Memory.{Memory}
 use Rattle.memory.specs.declared.Memory.the-variants.{Ram, Rom, Set, Stack, Queue}
 use Rattle.memory.specs.declared.Op.{Op}
-use Rattle.memory.specs.declared.Op.the-variants.{Init, Push, Enqueue, End, Range}
+use Rattle.memory.specs.declared.Op.the-variants.{Push, Enqueue, End, Range}
 use Rattle.memory.specs.declared.Row.{Row}
 use Rattle.memory.specs.Names.{isOp}
-use Rattle.memory.specs.Plain.{Operation, store, load, look, member, push, skippedPush, enqueue, skippedEnqueue, pop, skippedPop, dequeue, skippedDequeue, start, after, among, holds, operationOf}
+use Rattle.memory.specs.Plain.{Operation, store, load, look, member, push, skippedPush, enqueue, skippedEnqueue, pop, skippedPop, dequeue, skippedDequeue, after, among, holds, operationOf}
 
 -- A row of the filler's input: "`op,guard,addr,value`"
 pub record Input : Type 0 where
@@ -144,7 +144,7 @@ operationsFilled Queue t inits ops = queueFrom [] ops
 unfoldable pub filledRows : Memory → ℕ → List Input → List Input → List Row
 filledRows m t inits ops = map bare inits ++ operationsFilled m t (map (λ i. i .value) inits) ops
 
--- "11 filler: addr ≥ size", "12 filler: executed pop or dequeue on empty", "13 filler: value not in the set": what makes an operation impossible, or 0
+-- what makes an operation impossible, or 0. 11: "addr ≥ size"; 12: "executed pop or dequeue on empty"; 13: "value not in the set"
 unfoldable pub impossible : List ℕ → Operation → ℕ
 impossible content (store addr value) = cond (ltb addr (length content)) 0 11
 impossible content (load addr value old) = cond (ltb addr (length content)) 0 11

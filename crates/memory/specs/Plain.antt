@@ -1,10 +1,9 @@
 -- The plain memory of document 01, "fed the trace and no advice", and when a trace is right or wrong.
 -- Assumes nothing.
-use Prim.Native.Nat.{ℕ, zero, suc, _+_}
-use mathlib.Core.Path.{_≡_}
+use Prim.Native.Nat.{ℕ}
 use mathlib.Core.Bool.{Bool, true, false, _&&_, _||_, cond}
 use mathlib.Core.List.{List, [], _∷_, _++_, map}
-use lib.Dec.{eqb, leb, ltb}
+use lib.Dec.{eqb, ltb}
 use lib.ListN.{length, getD, take, drop, set}
 use Rattle.memory.specs.declared.Memory.{Memory}
 use Rattle.memory.specs.declared.Memory.the-variants.{Ram, Rom, Set, Stack, Queue}
@@ -42,7 +41,7 @@ pub record Trace : Type 0 where
   pub inits : List ℕ
   pub operations : List Operation
 
--- "stack and queue as an empty list", "ram and rom start as n cells with the init values, a set as those values"
+-- "Ram and rom start as n cells with the init values, a set as those values, stack and queue as an empty list."
 unfoldable pub start : Memory → List ℕ → List ℕ
 start Ram inits = inits
 start Rom inits = inits

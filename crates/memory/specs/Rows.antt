@@ -1,8 +1,8 @@
 -- Which rows are due, which columns a row uses, and the faults of a row line: sections "The file" and "The numbers" of document 01.
 -- The modulus q is document 01's p wherever a file is checked.
 -- Assumes nothing.
-use Prim.Native.Nat.{ℕ, zero, suc, _+_, _-_, _*_}
-use mathlib.Core.Bool.{Bool, true, false, _&&_, _||_, not, cond}
+use Prim.Native.Nat.{ℕ, _+_, _-_}
+use mathlib.Core.Bool.{Bool, true, false, _&&_, _||_, cond}
 use mathlib.Core.List.{List, [], _∷_, _++_}
 use lib.Dec.{eqb, leb, ltb}
 use lib.ListN.{length, getD, drop}

@@ -1,9 +1,9 @@
 -- What is shown of the definitions. proofs/ has a proof of each, under the name that the comment gives.
 -- Assumes nothing.
-use Prim.Native.Nat.{ℕ, zero, suc, _+_, _-_, _*_, _^_, _≤_, _<_}
+use Prim.Native.Nat.{ℕ, _+_, _-_, _*_, _^_, _≤_, _<_}
 use mathlib.Core.Path.{_≡_}
 use mathlib.Core.Logic.{_↔_, _⊎_}
-use mathlib.Core.Bool.{Bool, true, false}
+use mathlib.Core.Bool.{true, false}
 use mathlib.Core.List.{List, [], _∷_, _++_, map}
 use lib.ListN.{length, getD, take, drop}
 use Rattle.algebra.specs.Prime.{Prime}
@@ -109,8 +109,8 @@ ChoicesCounted = (m : Memory) (rows : List Row) → choicesOf m rows ≡ guarded
 abbrev pub DepthsCounted : Type 0
 DepthsCounted = (m : Memory) (rows : List Row) → depthsOf m rows ≡ rowsWith Dequeue rows
 
--- Demand 3, for one list of rows: "incomplete or malformed, no challenge accepts; else if the trace is wrong, whatever the advice, at most 2·m·p³ of the p⁴
--- challenges accept; and if it is right and the advice is the filler's, all p⁴ do"
+-- Demand 3, for one list of rows: where they are incomplete or malformed, or meet 8, no challenge accepts them; else, where the trace is wrong, at most 2·m·p³ of
+-- the p⁴ challenges do, whatever the advice; and where it is right and the advice is the filler's, all p⁴ do
 pub record Demand (q : ℕ) (m : Memory) (n t : ℕ) (lines : List Line) : Type 0 where
   pub incomplete : malformed q m n t lines ≡ true → (ch : Challenge) → accepts q m n t lines ch ≡ false
   -- 8: "the queue's depth product is 0, or the stack's depth is below 0"
@@ -131,7 +131,7 @@ abbrev pub DemandAt : Type 0
 DemandAt =
     (q : ℕ) (m : Memory) (n t : ℕ) (lines : List Line) → Prime q → 2 * t ≤ q → t + 1 < q → n ≤ q → Demand q m n t lines
 
--- Demand 3: "For every memory, size, count and list of rows" (Demand: demand-three)
+-- Demand 3, for every memory, size, count and list of rows. (Demand: demand-three)
 abbrev pub DemandThree : Type 0
 DemandThree = (m : Memory) (n t : ℕ) (lines : List Line) → Demand p m n t lines
 
@@ -173,7 +173,8 @@ pub record Fillable (m : Memory) (n t : ℕ) (inits ops : List Input) : Type 0 w
   pub count : length ops ≡ t
   pub unrefused : rowsFault p m (map (λ i. i .value) inits) 1 inits ops .number ≡ 0
 
--- the report of accepted rows: answer 0, line 0, and inputs and multiplications by document 01's table
+-- the report of accepted rows: answer 0, line 0, and inputs and multiplications by document 01's table. Of complete and well-formed rows it is `accepted`, which
+-- counts them, by GatesByFormula
 unfoldable pub acceptance : Memory → ℕ → ℕ → List Row → Report
 acceptance m n t rows = record {
   answer = 0;

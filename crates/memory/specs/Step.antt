@@ -1,7 +1,7 @@
 -- The steps of a checker: the fresh state of a value line, one row, the end of file, and what is printed of a state. The code is equated with these
 -- definitions; they are total, for every state and every row. A counter that has reached the largest number of its type stays there.
 -- Assumes nothing.
-use Prim.Native.Nat.{ℕ, zero, suc, _+_, _-_, _*_, min}
+use Prim.Native.Nat.{ℕ, _+_, _-_, min}
 use mathlib.Core.Bool.{Bool, true, false, _&&_, _||_, not, cond}
 use mathlib.Core.List.{List, [], _∷_, _++_, map}
 use lib.Dec.{eqb, leb, ltb}
@@ -25,7 +25,7 @@ use Rattle.memory.specs.Names.{isOp}
 use Rattle.memory.specs.Rows.{raiseBy, lowerBy, endsDue, rangesDue, phaseAt, opsDue, opIn, formed, depthFactor, rowBelow, parseRow}
 use Rattle.memory.specs.Equations.{Triple, triple, pair, Lookup, factor, lookRead, lookWrite, setInit, memberRead, memberWrite, rangeRead, rangeWrite, accessRead, newOf, pushWrite, popRead, popLookup}
 use Rattle.memory.specs.Gates.{rowInputs, rowMults}
-use Rattle.memory.specs.File.{refused, valuesFault, Opening, opens, shut, parseValues}
+use Rattle.memory.specs.File.{refused, valuesFault, Opening, opens, shut}
 
 -- the largest number of a counter
 unfoldable pub top : ℕ
