@@ -21,7 +21,7 @@ use Rattle.memory.specs.declared.Challenge.{Challenge}
 use Rattle.memory.specs.declared.Products.{Products}
 use Rattle.memory.specs.declared.Report.{Report}
 use Rattle.memory.specs.Rows.{sized, allowed, raised, lowered, rangesDue, dueAfter}
-use Rattle.memory.specs.Equations.{Triple, Lists, Lookup, factor, product, balanced, shuffleLists, rangedLists, listsOf, initRows, operationRows, endRows, rangeRows, fileLists, rangeBalances, memoryBalances, initWrites, rangeSetup, rangeWrite, rangeRead, rangeEnds, accessRead, accessWrites, accessLookups, cellEnds, pushWrites, popReads, popLookups}
+use Rattle.memory.specs.Equations.{Triple, Lists, Lookup, factor, product, balanced, shuffleLists, rangedLists, listsOf, endRows, rangeRows, fileLists, rangeBalances, memoryBalances, initWrites, rangeSetup, rangeWrite, rangeRead, rangeEnds, accessRead, accessWrites, accessLookups, cellEnds, pushWrites, popReads, popLookups}
 use Rattle.memory.specs.File.{refused, accepted, balanceReport}
 use Rattle.memory.specs.Step.{multiplied}
 use Rattle.memory.proofs.Counted.{times-comm, times-assoc}
@@ -183,7 +183,7 @@ complete-length q m n t rows c =
 -- and have the products of the file's lists
 pub products-of-file : (q : ℕ) (m : Memory) (n t : ℕ) (ch : Challenge) (rows : List Row) → 2 ≤ q → allowed m n t ≡ true → Complete q m n t [] rows
     → productsOf q ch (emitted q m n t [] rows) ≡ productsOf q ch (fileLists q m n t rows)
-unfolding fileLists initRows operationRows endRows rangeRows endsIn
+unfolding fileLists endRows rangeRows endsIn
 products-of-file q m n t ch rows le a c =
     products-of-placed q m n t (endsIn m n rows) ch rows le a (complete-length q m n t rows c) (placed-rows q m n t [] rows rows refl (c .each))
 

@@ -19,7 +19,7 @@ use Rattle.memory.specs.declared.Phase.the-variants.{Starting, Operating
 use Rattle.memory.specs.declared.Row.{Row}
 use Rattle.memory.specs.Names.{opCode, isOp}
 use Rattle.memory.specs.Rows.{sized, raiseBy, lowerBy, endsDue, rangesDue, opsDue, opIn, columns, used}
-use Rattle.memory.specs.Equations.{Triple, Lookup, Lists, initWrites, lookRead, lookWrite, romEnds, setInit, memberRead, memberWrite, rangeSetup, rangeRead, rangeWrite, rangeEnds, accessRead, accessWrites, accessLookups, cellEnds, pushWrite, pushWrites, popRead, popReads, popLookup, popLookups, enqueues, dequeues, endOlds, shuffleLists, rangedLists, listsOf, fileLists}
+use Rattle.memory.specs.Equations.{Triple, Lookup, Lists, initWrites, lookRead, lookWrite, romEnds, setInit, memberRead, memberWrite, rangeSetup, rangeRead, rangeWrite, rangeEnds, accessRead, accessWrites, accessLookups, cellEnds, pushWrite, pushWrites, popRead, popReads, popLookup, popLookups, enqueueElements, enqueues, dequeueElements, dequeues, endElement, endOlds, shuffleLists, rangedLists, listsOf, fileLists}
 use Rattle.memory.specs.Gates.{costs, rowCosts, factorsOf, choicesOf, hashesOf, depthsOf, guarded, skippedWith, rowsWith}
 use Rattle.memory.specs.Bound.{rowsIn}
 use Rattle.memory.specs.Statements.{FactorsCounted, ChoicesCounted, HashesCounted, DepthsCounted}
@@ -287,8 +287,8 @@ record QueueCounted (ops : List Row) : Type 0 where
 
 -- the same of one row
 record QueueRowCounted (row : Row) : Type 0 where
-  enters : oneOf Enqueue (row .op) ≡ length (cond {A = List ℕ} (isOp (row .op) Enqueue && eqb (row .guard) 1) (row .value ∷ []) []) + cond (isOp (row .op) Enqueue && eqb (row .guard) 0) 1 0
-  leaves : oneOf Dequeue (row .op) ≡ length (cond {A = List ℕ} (isOp (row .op) Dequeue && eqb (row .guard) 1) (row .old ∷ []) []) + cond (isOp (row .op) Dequeue && eqb (row .guard) 0) 1 0
+  enters : oneOf Enqueue (row .op) ≡ length (enqueueElements row) + cond (isOp (row .op) Enqueue && eqb (row .guard) 0) 1 0
+  leaves : oneOf Dequeue (row .op) ≡ length (dequeueElements row) + cond (isOp (row .op) Dequeue && eqb (row .guard) 0) 1 0
 
 queue-row-counted : (row : Row) → opIn (row .op) (opsDue Queue Operating) ≡ true → leb (row .guard) 1 ≡ true → QueueRowCounted row
 unfolding rowAt oneOf isOp opCode opsDue
@@ -304,8 +304,8 @@ queue-counted (row ∷ rows) due =
     let here = queue-row-counted row (due .0) (due .1) in
     let rest = queue-counted rows (due .2) in
     record {
-      enters = omega (arith, here .enters, rest .enters, length-append (cond (isOp (row .op) Enqueue && eqb (row .guard) 1) (row .value ∷ []) []) (enqueues rows));
-      leaves = omega (arith, here .leaves, rest .leaves, length-append (cond (isOp (row .op) Dequeue && eqb (row .guard) 1) (row .old ∷ []) []) (dequeues rows));
+      enters = omega (arith, here .enters, rest .enters, length-append (enqueueElements row) (enqueues rows));
+      leaves = omega (arith, here .leaves, rest .leaves, length-append (dequeueElements row) (dequeues rows));
     }
 
 queue-hashes : (q n t : ℕ) (rows : List Row) → Parts q Queue n t rows → Hashed q Queue n t rows
@@ -317,7 +317,7 @@ queue-hashes q n t rows p =
       tally-hashes Queue rows ∙ queue-tally (rowHashes Queue) q n t rows p,
       ap elementsIn (parts-lists q Queue n t rows p),
       length-append (dequeues (p .ops)) (endOlds (p .ends)),
-      length-map (p .ends) (λ (row : Row). row .old),
+      length-map (p .ends) endElement,
       c .enters,
       c .leaves,
       skipped-parts Enqueue q Queue n t rows p refl refl refl,

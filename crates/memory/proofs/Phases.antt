@@ -25,7 +25,7 @@ use Rattle.memory.specs.declared.Parsed.the-variants.{Sound, Fault}
 use Rattle.memory.specs.Bytes.{Line}
 use Rattle.memory.specs.Names.{opCode, isOp}
 use Rattle.memory.specs.Rows.{raiseBy, lowerBy, raised, lowered, endsDue, rangesDue, phaseAt, opsDue, opIn, formed, rowBelow, depthFactor, depthProduct, sunk, dueAfter, phaseAfter, rowFault, parsedFault, lineFault}
-use Rattle.memory.specs.Equations.{listsOf, initRows, operationRows, endRows, rangeRows, fileLists}
+use Rattle.memory.specs.Equations.{listsOf, endRows, rangeRows, fileLists}
 use Rattle.memory.specs.File.{parsedRow, rowsOf, parseRows, Refusal, refusal, firstFault}
 use Rattle.memory.specs.Bound.{rowsIn}
 use Rattle.memory.proofs.Operations.{Ops, isOp-true}
@@ -230,7 +230,7 @@ parts-ranges q m n t rows p =
 -- the lists of the equations, by the parts
 pub parts-lists : (q : ℕ) (m : Memory) (n t : ℕ) (rows : List Row) (p : Parts q m n t rows)
     → fileLists q m n t rows ≡ listsOf q m t (p .inits) (p .ops) (p .ends) (p .ranges)
-unfolding fileLists initRows operationRows
+unfolding fileLists
 parts-lists q m n t rows p =
     rw (parts-inits q m n t rows p, parts-ops q m n t rows p, parts-ends q m n t rows p, parts-ranges q m n t rows p)
 

@@ -10,8 +10,8 @@ use lib.ListN.{length, take, drop, length-append}
 use Rattle.memory.specs.declared.Memory.{Memory}
 use Rattle.memory.specs.declared.Row.{Row}
 use Rattle.memory.specs.declared.Parsed.{Parsed}
-use Rattle.memory.specs.Rows.{raised, lowered, endsDue, rangesDue, sunk, dueAfter}
-use Rattle.memory.specs.Equations.{initRows, operationRows, endRows, rangeRows}
+use Rattle.memory.specs.Rows.{raised, lowered, endsDue, rangesDue, sunk, dueAfter, initRows, operationRows}
+use Rattle.memory.specs.Equations.{endRows, rangeRows}
 use Rattle.memory.specs.File.{rowsOf, firstFault}
 use Rattle.memory.proofs.Operations.{Ops}
 use Rattle.memory.proofs.ReadRows.{RowsBelow, taken-below, dropped-below}
@@ -35,7 +35,7 @@ pub record WellFormed (q : ℕ) (m : Memory) (n t : ℕ) (rows : List Row) : Typ
 
 -- the rows of the four phases
 pub parts-well-formed : (q : ℕ) (m : Memory) (n t : ℕ) (rows : List Row) → Parts q m n t rows → WellFormed q m n t rows
-unfolding initRows operationRows dueAfter
+unfolding dueAfter
 parts-well-formed q m n t rows p =
     let ops = parts-ops q m n t rows p in
     let moves = parts-raised q m n t rows p in record {
@@ -78,7 +78,7 @@ pub record PartsBelow (q : ℕ) (m : Memory) (n t : ℕ) (rows : List Row) : Typ
 
 -- each part of such rows has its numbers below q
 pub parts-below : (q : ℕ) (m : Memory) (n t : ℕ) (rows : List Row) → RowsBelow q rows → PartsBelow q m n t rows
-unfolding initRows operationRows endRows rangeRows
+unfolding endRows rangeRows
 parts-below q m n t rows h = record {
   inits = taken-below q n rows h;
   operations = taken-below q t (drop n rows) (dropped-below q n rows h);

@@ -23,11 +23,11 @@ use Rattle.memory.specs.declared.Op.the-variants.{Enqueue, Dequeue}
 use Rattle.memory.specs.declared.Row.{Row}
 use Rattle.memory.specs.declared.Challenge.{Challenge}
 use Rattle.memory.specs.Names.{opCode, isOp}
-use Rattle.memory.specs.Rows.{sized, raiseBy, lowerBy, raised, lowered, endsDue, rangesDue, opsDue, depthFactor, depthProduct, sunk}
+use Rattle.memory.specs.Rows.{sized, raiseBy, lowerBy, raised, lowered, endsDue, rangesDue, initRows, operationRows, opsDue, depthFactor, depthProduct, sunk}
 use Rattle.memory.specs.Equations.{Triple, Lookup, Lists, balanced, romEnds, memberRead}
 use Rattle.memory.specs.Equations.{rangeSetup, rangeRead, rangeWrite, rangeEnds, accessLookups, cellEnds}
 use Rattle.memory.specs.Equations.{popLookups, enqueues, dequeues, endOlds, shuffleLists, rangedLists, listsOf}
-use Rattle.memory.specs.Equations.{initRows, operationRows, endRows, rangeRows, fileLists, rangeBalances, memoryBalances}
+use Rattle.memory.specs.Equations.{endRows, rangeRows, fileLists, rangeBalances, memoryBalances}
 use Rattle.memory.specs.Gates.{takes}
 use Rattle.memory.specs.Plain.{start, right, traceOf}
 use Rattle.memory.specs.Bound.{challenges, degree}
@@ -86,7 +86,7 @@ right-or-rare-rom :
     (q n t : ℕ) (rows : List Row) (test : Challenge → Bool)
     → Prime q → t < q → n ≤ q → PartsBelow q Rom n t rows → WellFormed q Rom n t rows → Balancing q Rom n t rows test
     → RightOrRare q Rom n t rows test
-unfolding right traceOf start degree fileLists listsOf shuffleLists endsDue initRows operationRows
+unfolding right traceOf start degree fileLists listsOf shuffleLists endsDue
 right-or-rare-rom q n t rows test prime few small below well balancing =
     let inits : List Row = initRows n rows in
     let ops : List Row = operationRows n t rows in
@@ -109,7 +109,7 @@ right-or-rare-set :
     (q n t : ℕ) (rows : List Row) (test : Challenge → Bool)
     → Prime q → t < q → PartsBelow q Set n t rows → WellFormed q Set n t rows → Balancing q Set n t rows test
     → RightOrRare q Set n t rows test
-unfolding right traceOf start degree fileLists listsOf shuffleLists endsDue initRows operationRows
+unfolding right traceOf start degree fileLists listsOf shuffleLists endsDue
 right-or-rare-set q n t rows test prime few below well balancing =
     let inits : List Row = initRows n rows in
     let ops : List Row = operationRows n t rows in
@@ -150,7 +150,7 @@ right-or-rare-ram :
     (q n t : ℕ) (rows : List Row) (test : Challenge → Bool)
     → Prime q → 2 * t ≤ q → t + 1 < q → n ≤ q → PartsBelow q Ram n t rows → WellFormed q Ram n t rows → Balancing q Ram n t rows test
     → RightOrRare q Ram n t rows test
-unfolding right traceOf start degree fileLists listsOf rangedLists endsDue rangesDue initRows operationRows rangeBalances
+unfolding right traceOf start degree fileLists listsOf rangedLists endsDue rangesDue rangeBalances
 right-or-rare-ram q n t rows test prime wide room small below well balancing =
     let inits : List Row = initRows n rows in
     let ops : List Row = operationRows n t rows in
@@ -182,7 +182,7 @@ right-or-rare-stack :
     (q n t : ℕ) (rows : List Row) (test : Challenge → Bool)
     → Prime q → 2 * t ≤ q → t + 1 < q → PartsBelow q Stack n t rows → WellFormed q Stack n t rows → Balancing q Stack n t rows test
     → RightOrRare q Stack n t rows test
-unfolding right traceOf start degree fileLists listsOf rangedLists endsDue rangesDue operationRows rangeBalances
+unfolding right traceOf start degree fileLists listsOf rangedLists endsDue rangesDue rangeBalances
 right-or-rare-stack q n t rows test prime wide room below well balancing =
     let ops : List Row = operationRows n t rows in
     let ends : List Row = endRows Stack n t rows in
@@ -239,7 +239,7 @@ depth-at-least-zero q (row ∷ rows) positive due =
 
 -- queue: no 8 says that the depth product is not 0
 depth-product-nonzero : (q n t : ℕ) (rows : List Row) → n ≡ 0 → WellFormed q Queue n t rows → depthProduct q 0 0 (operationRows n t rows) ≢ 0
-unfolding operationRows depthProduct sunk
+unfolding depthProduct sunk
 depth-product-nonzero q n t rows none well = go t refl
   where
     same : take (n + t) rows ≡ take t (drop n rows)
@@ -256,7 +256,7 @@ right-or-rare-queue :
     (q n t : ℕ) (rows : List Row) (test : Challenge → Bool)
     → Prime q → n ≡ 0 → t < q → PartsBelow q Queue n t rows → WellFormed q Queue n t rows → Balancing q Queue n t rows test
     → RightOrRare q Queue n t rows test
-unfolding right traceOf start degree fileLists listsOf endsDue operationRows
+unfolding right traceOf start degree fileLists listsOf endsDue
 right-or-rare-queue q n t rows test prime none room below well balancing =
     let ops : List Row = operationRows n t rows in
     let ends : List Row = endRows Queue n t rows in

@@ -12,8 +12,8 @@ use Rattle.memory.specs.declared.Memory.the-variants.{Ram, Rom, Set, Sta
 use Rattle.memory.specs.declared.Row.{Row}
 use Rattle.memory.specs.declared.Challenge.{Challenge}
 use Rattle.memory.specs.Bytes.{Line, allBelow}
-use Rattle.memory.specs.Rows.{allowed}
-use Rattle.memory.specs.Equations.{enqueues, operationRows}
+use Rattle.memory.specs.Rows.{allowed, operationRows}
+use Rattle.memory.specs.Equations.{enqueues}
 use Rattle.memory.specs.Gates.{takes}
 use Rattle.memory.specs.File.{firstFault, rowsOf, parseRows}
 use Rattle.memory.specs.Plain.{Trace, traceOf}
@@ -24,6 +24,10 @@ use Rattle.memory.specs.Filler.{Filling, fillOf, memoryCode, room, input
 -- the challenge of four elements
 unfoldable pub challenge : ℕ → ℕ → ℕ → ℕ → Challenge
 challenge r a b c = record { r = r; a = a; b = b; c = c }
+
+-- "A challenge is four elements r, a, b, c."
+abbrev pub elements : ℕ → Challenge → Bool
+elements q ch = allBelow q (ch .r ∷ ch .a ∷ ch .b ∷ ch .c ∷ [])
 
 -- "A challenge accepts the rows if the end of file then answers 0": the fresh state, the rows one call at a time, and last the end of file
 unfoldable pub accepts : ℕ → Memory → ℕ → ℕ → List Line → Challenge → Bool

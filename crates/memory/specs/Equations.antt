@@ -15,7 +15,7 @@ use Rattle.memory.specs.declared.Op.the-variants.{Push, Pop, Enqueue, De
 use Rattle.memory.specs.declared.Row.{Row}
 use Rattle.memory.specs.declared.Challenge.{Challenge}
 use Rattle.memory.specs.Names.{isOp}
-use Rattle.memory.specs.Rows.{raiseBy, lowerBy, raised, lowered, endsDue}
+use Rattle.memory.specs.Rows.{raiseBy, lowerBy, raised, lowered, endsDue, initRows, operationRows}
 
 -- "A triple (x, y, z)"
 pub record Triple : Type 0 where
@@ -56,9 +56,12 @@ pub record Lists : Type 0 where
   pub dequeued : List ℕ
 
 -- rom and ram: "Init writes (address, value, 0), addresses counting from 0."
+abbrev pub initWrite : ℕ → Row → Triple
+initWrite i row = triple i (row .value) 0
+
 unfoldable pub initWrites : ℕ → List Row → List Triple
 initWrites i [] = []
-initWrites i (row ∷ rows) = triple i (row .value) 0 ∷ initWrites (suc i) rows
+initWrites i (row ∷ rows) = initWrite i row ∷ initWrites (suc i) rows
 
 -- rom: "Look reads (addr, old, version) and writes (addr, old, version + 1)."
 unfoldable pub lookRead : Row → Triple
@@ -68,9 +71,12 @@ unfoldable pub lookWrite : ℕ → Row → Triple
 lookWrite q row = triple (row .addr) (row .old) (plus q (row .version) 1)
 
 -- rom: "End reads (address, value, version)"
+abbrev pub romEnd : ℕ → Row → Triple
+romEnd i row = triple i (row .value) (row .version)
+
 unfoldable pub romEnds : ℕ → List Row → List Triple
 romEnds i [] = []
-romEnds i (row ∷ rows) = triple i (row .value) (row .version) ∷ romEnds (suc i) rows
+romEnds i (row ∷ rows) = romEnd i row ∷ romEnds (suc i) rows
 
 -- set: "The same with pairs (value, version), end rows in init order."
 unfoldable pub setInit : Row → Triple
@@ -87,10 +93,13 @@ pub record Lookup : Type 0 where
   pub age : ℕ
   pub version : ℕ
 
--- range: "A set holding 1 to T, set up at version 0.": the numbers from i on, t of them
+-- range: "A set holding 1 to T, set up at version 0.": a number, and the numbers from i on, t of them
+abbrev pub rangeSet : ℕ → Triple
+rangeSet i = pair i 0
+
 unfoldable pub rangeSetup : ℕ → ℕ → List Triple
 rangeSetup i zero = []
-rangeSetup i (suc t) = pair i 0 ∷ rangeSetup (suc i) t
+rangeSetup i (suc t) = rangeSet i ∷ rangeSetup (suc i) t
 
 unfoldable pub rangeRead : Lookup → Triple
 rangeRead l = pair (l .age) (l .version)
@@ -99,9 +108,12 @@ unfoldable pub rangeWrite : ℕ → Lookup → Triple
 rangeWrite q l = pair (l .age) (plus q (l .version) 1)
 
 -- the range rows end the set: they read (i, version), i from 1
+abbrev pub rangeEnd : ℕ → Row → Triple
+rangeEnd i row = pair i (row .version)
+
 unfoldable pub rangeEnds : ℕ → List Row → List Triple
 rangeEnds i [] = []
-rangeEnds i (row ∷ rows) = pair i (row .version) ∷ rangeEnds (suc i) rows
+rangeEnds i (row ∷ rows) = rangeEnd i row ∷ rangeEnds (suc i) rows
 
 -- ram: "Access reads (addr, old, time)"
 unfoldable pub accessRead : Row → Triple
@@ -112,20 +124,28 @@ unfoldable pub newOf : Row → ℕ
 newOf row = cond (eqb (row .guard) 1) (row .value) (row .old)
 
 -- ram: "writes (addr, new, clock), and the clock rises by 1"
+abbrev pub accessWrite : ℕ → Row → Triple
+accessWrite clock row = triple (row .addr) (newOf row) clock
+
 unfoldable pub accessWrites : ℕ → List Row → List Triple
 accessWrites clock [] = []
-accessWrites clock (row ∷ rows) = triple (row .addr) (newOf row) clock ∷ accessWrites (suc clock) rows
+accessWrites clock (row ∷ rows) = accessWrite clock row ∷ accessWrites (suc clock) rows
 
 -- ram: "looks up clock − time in the range"
+abbrev pub accessLookup : ℕ → ℕ → Row → Lookup
+accessLookup q clock row = record { age = minus q clock (row .time); version = row .version }
+
 unfoldable pub accessLookups : ℕ → ℕ → List Row → List Lookup
 accessLookups q clock [] = []
-accessLookups q clock (row ∷ rows) =
-    record { age = minus q clock (row .time); version = row .version } ∷ accessLookups q (suc clock) rows
+accessLookups q clock (row ∷ rows) = accessLookup q clock row ∷ accessLookups q (suc clock) rows
 
 -- ram: "End reads (address, old, time)", addresses from 0; stack: "End reads (i, old, time), i from 1 to D"
+abbrev pub cellEnd : ℕ → Row → Triple
+cellEnd i row = triple i (row .old) (row .time)
+
 unfoldable pub cellEnds : ℕ → List Row → List Triple
 cellEnds i [] = []
-cellEnds i (row ∷ rows) = triple i (row .old) (row .time) ∷ cellEnds (suc i) rows
+cellEnds i (row ∷ rows) = cellEnd i row ∷ cellEnds (suc i) rows
 
 -- stack: after `up` executed pushes and `down` executed pops the depth is up − down and the clock is 1 + up.
 -- "Push adds guard to depth, writes (depth, value, clock) if guard is 1"
@@ -157,18 +177,27 @@ unfoldable pub popLookups : ℕ → ℕ → List Row → List Lookup
 popLookups q up [] = []
 popLookups q up (row ∷ rows) = popLookup q up row ++ popLookups q (up + raiseBy (row .op) (row .guard)) rows
 
--- queue: "An executed enqueue or dequeue makes its hash h·r + element."
+-- queue: "An executed enqueue or dequeue makes its hash h·r + element.": the elements of one row, and of a list of rows
+abbrev pub enqueueElements : Row → List ℕ
+enqueueElements row = cond (isOp (row .op) Enqueue && eqb (row .guard) 1) (row .value ∷ []) []
+
 unfoldable pub enqueues : List Row → List ℕ
 enqueues [] = []
-enqueues (row ∷ rows) = cond (isOp (row .op) Enqueue && eqb (row .guard) 1) (row .value ∷ []) [] ++ enqueues rows
+enqueues (row ∷ rows) = enqueueElements row ++ enqueues rows
+
+abbrev pub dequeueElements : Row → List ℕ
+dequeueElements row = cond (isOp (row .op) Dequeue && eqb (row .guard) 1) (row .old ∷ []) []
 
 unfoldable pub dequeues : List Row → List ℕ
 dequeues [] = []
-dequeues (row ∷ rows) = cond (isOp (row .op) Dequeue && eqb (row .guard) 1) (row .old ∷ []) [] ++ dequeues rows
+dequeues (row ∷ rows) = dequeueElements row ++ dequeues rows
 
 -- queue: "End continues the dequeue hash."
+abbrev pub endElement : Row → ℕ
+endElement row = row .old
+
 unfoldable pub endOlds : List Row → List ℕ
-endOlds rows = map (λ row. row .old) rows
+endOlds rows = map endElement rows
 
 -- the lists of a memory with no range and no hash
 unfoldable pub shuffleLists : List Triple → List Triple → Lists
@@ -198,13 +227,7 @@ listsOf q Stack t inits ops ends ranges =
 listsOf q Queue t inits ops ends ranges =
     record { written = []; read = []; supplied = []; looked = []; enqueued = enqueues ops; dequeued = dequeues ops ++ endOlds ends }
 
--- the parts of a complete list of rows
-unfoldable pub initRows : ℕ → List Row → List Row
-initRows n rows = take n rows
-
-unfoldable pub operationRows : ℕ → ℕ → List Row → List Row
-operationRows n t rows = take t (drop n rows)
-
+-- the end rows and the range rows of a complete list of rows
 unfoldable pub endRows : Memory → ℕ → ℕ → List Row → List Row
 endRows m n t rows = take (endsDue m n (raised rows) (lowered rows)) (drop (n + t) rows)
 

@@ -11,6 +11,7 @@ use Rattle.memory.specs.declared.Op.{Op}
 use Rattle.memory.specs.declared.Op.the-variants.{Push, Enqueue, End, Range}
 use Rattle.memory.specs.declared.Row.{Row}
 use Rattle.memory.specs.Names.{isOp}
+use Rattle.memory.specs.Rows.{initRows, operationRows}
 use Rattle.memory.specs.Plain.{Operation, store, load, look, member, push, skippedPush, enqueue, skippedEnqueue, pop, skippedPop, dequeue, skippedDequeue, after, among, holds, operationOf}
 
 -- A row of the filler's input: "`op,guard,addr,value`"
@@ -23,6 +24,13 @@ pub record Input : Type 0 where
 -- what a row of the file takes from the filler's input
 unfoldable pub inputOf : Row → Input
 inputOf row = record { op = row .op; guard = row .guard; addr = row .addr; value = row .value }
+
+-- the filler's input among the rows of a file
+abbrev pub initInputs : ℕ → List Row → List Input
+initInputs n rows = map inputOf (initRows n rows)
+
+abbrev pub operationInputs : ℕ → ℕ → List Row → List Input
+operationInputs n t rows = map inputOf (operationRows n t rows)
 
 -- "Op, guard, addr and value are copied": the row of an input with its advice
 unfoldable pub filledRow : Input → ℕ → ℕ → ℕ → Row
@@ -143,6 +151,10 @@ operationsFilled Queue t inits ops = queueFrom [] ops
 -- all rows that the filler writes for init rows and operations
 unfoldable pub filledRows : Memory → ℕ → List Input → List Input → List Row
 filledRows m t inits ops = map bare inits ++ operationsFilled m t (map (λ i. i .value) inits) ops
+
+-- the same for those among the rows of a file
+abbrev pub refilledRows : Memory → ℕ → ℕ → List Row → List Row
+refilledRows m n t rows = filledRows m t (initInputs n rows) (operationInputs n t rows)
 
 -- what makes an operation impossible, or 0. 11: "addr ≥ size"; 12: "executed pop or dequeue on empty"; 13: "value not in the set"
 unfoldable pub impossible : List ℕ → Operation → ℕ

@@ -4,12 +4,13 @@ use Prim.Native.Nat.{ℕ}
 use mathlib.Core.Bool.{Bool, true, false, _&&_, _||_, cond}
 use mathlib.Core.List.{List, [], _∷_, _++_, map}
 use lib.Dec.{eqb, ltb}
-use lib.ListN.{length, getD, take, drop, set}
+use lib.ListN.{length, getD, drop, set}
 use Rattle.memory.specs.declared.Memory.{Memory}
 use Rattle.memory.specs.declared.Memory.the-variants.{Ram, Rom, Set, Stack, Queue}
 use Rattle.memory.specs.declared.Op.the-variants.{Push, Enqueue}
 use Rattle.memory.specs.declared.Row.{Row}
 use Rattle.memory.specs.Names.{isOp}
+use Rattle.memory.specs.Rows.{initRows, operationRows}
 
 -- An operation as the trace has it: "every operation's op, guard, addr and value, and the old of loads, looks and executed pops and dequeues".
 -- It cannot hold advice.
@@ -135,6 +136,6 @@ traceOf m n t rows = record {
   memory = m;
   size = n;
   count = t;
-  inits = map (λ row. row .value) (take n rows);
-  operations = map (operationOf m) (take t (drop n rows));
+  inits = map (λ row. row .value) (initRows n rows);
+  operations = map (operationOf m) (operationRows n t rows);
 }

@@ -5,7 +5,7 @@ use Prim.Native.Nat.{ℕ, _+_, _-_}
 use mathlib.Core.Bool.{Bool, true, false, _&&_, _||_, cond}
 use mathlib.Core.List.{List, [], _∷_, _++_}
 use lib.Dec.{eqb, leb, ltb}
-use lib.ListN.{length, getD, drop}
+use lib.ListN.{length, getD, take, drop}
 use Rattle.algebra.specs.Modulo.{minus, times}
 use Rattle.memory.specs.declared.Memory.{Memory}
 use Rattle.memory.specs.declared.Memory.the-variants.{Ram, Rom, Set, Stack, Queue}
@@ -74,6 +74,13 @@ phaseAt n t ends ranges k =
     (cond (ltb k (n + t)) Operating
     (cond (ltb k (n + t + ends)) Ending
     (cond (ltb k (n + t + ends + ranges)) Ranging Over)))
+
+-- "n `init` (ram, rom, set); T operations": these parts of a list of rows
+abbrev pub initRows : ℕ → List Row → List Row
+initRows n rows = take n rows
+
+abbrev pub operationRows : ℕ → ℕ → List Row → List Row
+operationRows n t rows = take t (drop n rows)
 
 -- "init (ram, rom, set)", "Stacks take push and pop, queues enqueue and dequeue, in any order": the ops due in each phase of each memory
 unfoldable pub opsDue : Memory → Phase → List Op

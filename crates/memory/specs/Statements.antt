@@ -4,7 +4,7 @@ use Prim.Native.Nat.{ℕ, _+_, _-_, _*_, _^_, _≤_, _<_}
 use mathlib.Core.Path.{_≡_}
 use mathlib.Core.Logic.{_↔_, _⊎_}
 use mathlib.Core.Bool.{true, false}
-use mathlib.Core.List.{List, [], _∷_, _++_, map}
+use mathlib.Core.List.{List, [], _++_, map}
 use lib.ListN.{length, getD, take, drop}
 use Rattle.algebra.specs.Prime.{Prime}
 use Rattle.field.specs.Field.{p}
@@ -16,13 +16,13 @@ use Rattle.memory.specs.declared.Parsed.the-variants.{Sound}
 use Rattle.memory.specs.declared.Challenge.{Challenge}
 use Rattle.memory.specs.declared.State.{State}
 use Rattle.memory.specs.declared.Report.{Report}
-use Rattle.memory.specs.Bytes.{Line, allBelow, linesOf}
-use Rattle.memory.specs.Rows.{allowed, raised, lowered, rangesDue, formed, rowBelow, lineFault}
+use Rattle.memory.specs.Bytes.{Line, linesOf}
+use Rattle.memory.specs.Rows.{allowed, raised, lowered, rangesDue, initRows, formed, rowBelow, lineFault}
 use Rattle.memory.specs.Equations.{fileLists, rangeBalances, memoryBalances}
 use Rattle.memory.specs.Gates.{inputsOf, multsOf, factorsOf, choicesOf, hashesOf, depthsOf, guarded, skippedWith, rowsWith, inputsFormula, multsFormula, puts, takes}
 use Rattle.memory.specs.File.{firstFault, refusal, parseRows, valuesFault, valuesReport, fileReport}
 use Rattle.memory.specs.Plain.{right, traceOf}
-use Rattle.memory.specs.Honest.{Input, inputOf, filledRows}
+use Rattle.memory.specs.Honest.{Input, initInputs, operationInputs, filledRows, refilledRows}
 use Rattle.memory.specs.Step.{takesRows, stepOf, endOf, stepsOf, runOf, freshOf, reportOf}
 use Rattle.memory.specs.Filler.{rowsFault}
 use Rattle.memory.specs.Print.{rowsText, refusalText, filledText, headerText}
@@ -30,7 +30,7 @@ use Rattle.memory.specs.FillFile.{job, parseJob, parseInput, inputsOfLin
 use Rattle.memory.specs.Pieces.{Piece, bytesIn}
 use Rattle.memory.specs.FillStream.{Gathered, lineTaken, unfilled, fillEnd, late}
 use Rattle.memory.specs.Stream.{Reading, unread, bytesOf, finishOf}
-use Rattle.memory.specs.Bound.{accepts, challenges, malformed, degree, rowsIn, traceIn, Advised}
+use Rattle.memory.specs.Bound.{elements, accepts, challenges, malformed, degree, rowsIn, traceIn, Advised}
 
 -- "Rows then come one call at a time, refused ones included, and last the end of file": the value line's fresh state, advanced by any list of what lines can
 -- read as and then ended, answers what the whole-file definition says: answer, line, inputs, multiplications. (Fold: fold-is-file)
@@ -124,7 +124,7 @@ pub record Demand (q : ℕ) (m : Memory) (n t : ℕ) (lines : List Line) : Type 
       → challenges q (accepts q m n t lines) ≤ degree m n t (rowsIn q lines) * q ^ 3
   pub honest :
       malformed q m n t lines ≡ false → right (traceIn q m n t lines) ≡ true → Advised q m n t (rowsIn q lines)
-      → (ch : Challenge) → allBelow q (ch .r ∷ ch .a ∷ ch .b ∷ ch .c ∷ []) ≡ true → accepts q m n t lines ch ≡ true
+      → (ch : Challenge) → elements q ch ≡ true → accepts q m n t lines ch ≡ true
 
 -- the statement for any prime, of sizes and counts that it has room for (Demand: demand-at)
 abbrev pub DemandAt : Type 0
@@ -138,12 +138,12 @@ DemandThree = (m : Memory) (n t : ℕ) (lines : List Line) → Demand p m n t li
 -- The honest prover's rules, over the rows of a well-formed file. Where the trace is right, they refuse no row and give rows that are complete and well-formed, with
 -- the same trace. (HonestRows: honest-rows)
 pub record HonestRun (q : ℕ) (m : Memory) (n t : ℕ) (rows : List Row) : Type 0 where
-  pub fills : rowsFault q m (map (λ row. row .value) (take n rows)) 1 (map inputOf (take n rows)) (map inputOf (take t (drop n rows))) .number ≡ 0
+  pub fills : rowsFault q m (map (λ row. row .value) (initRows n rows)) 1 (initInputs n rows) (operationInputs n t rows) .number ≡ 0
   pub complete :
-      firstFault q m n t [] (map Sound (filledRows m t (map inputOf (take n rows)) (map inputOf (take t (drop n rows))))) ≡ refusal 0 0
-  pub trace : traceOf m n t (filledRows m t (map inputOf (take n rows)) (map inputOf (take t (drop n rows)))) ≡ traceOf m n t rows
+      firstFault q m n t [] (map Sound (refilledRows m n t rows)) ≡ refusal 0 0
+  pub trace : traceOf m n t (refilledRows m n t rows) ≡ traceOf m n t rows
   -- their advice is the filler's
-  pub advised : allowed m n t ≡ true → Advised q m n t (filledRows m t (map inputOf (take n rows)) (map inputOf (take t (drop n rows))))
+  pub advised : allowed m n t ≡ true → Advised q m n t (refilledRows m n t rows)
 
 abbrev pub HonestRows : Type 0
 HonestRows =
@@ -155,7 +155,7 @@ abbrev pub RefusedNotRight : Type 0
 RefusedNotRight =
     (q : ℕ) (m : Memory) (n t : ℕ) (lines : List Line) → 2 ≤ q → firstFault q m n t [] (parseRows q lines) .number ≡ 0
     → let rows = rowsIn q lines in
-    (rowsFault q m (map (λ row. row .value) (take n rows)) 1 (map inputOf (take n rows)) (map inputOf (take t (drop n rows))) .number ≡ 0 → ⊥)
+    (rowsFault q m (map (λ row. row .value) (initRows n rows)) 1 (initInputs n rows) (operationInputs n t rows) .number ≡ 0 → ⊥)
     → right (traceOf m n t rows) ≡ false
 
 -- A file read in pieces, cut anywhere, gives what reading it whole gives. (Stream: stream-cut)
@@ -187,14 +187,14 @@ acceptance m n t rows = record {
 abbrev pub HonestFileAccepted : Type 0
 HonestFileAccepted =
     (m : Memory) (n t : ℕ) (inits ops : List Input) (ch : Challenge) → Fillable m n t inits ops
-    → allBelow p (ch .r ∷ ch .a ∷ ch .b ∷ ch .c ∷ []) ≡ true
+    → elements p ch ≡ true
     → let rows = filledRows m t inits ops in fileReport p (headerText m n t ch ++ filledText rows) ≡ acceptance m n t rows
 
 -- The same of its rows handed one call at a time to a fresh state of any challenge. (HonestFile: honest-run-accepted)
 abbrev pub HonestRunAccepted : Type 0
 HonestRunAccepted =
     (m : Memory) (n t : ℕ) (inits ops : List Input) (ch : Challenge) → Fillable m n t inits ops
-    → allBelow p (ch .r ∷ ch .a ∷ ch .b ∷ ch .c ∷ []) ≡ true
+    → elements p ch ≡ true
     → let rows = filledRows m t inits ops in
     reportOf (endOf (runOf p (freshOf p m n t ch) (linesOf (rowsText rows)))) ≡ acceptance m n t rows
 
@@ -221,7 +221,7 @@ pub record FillAccepted (bytes : List ℕ) : Type 0 where
   pub fillable : Fillable memory size count inits ops
   pub printed : fillText p bytes ≡ filledText (filledRows memory count inits ops)
   pub accepted :
-      (ch : Challenge) → allBelow p (ch .r ∷ ch .a ∷ ch .b ∷ ch .c ∷ []) ≡ true
+      (ch : Challenge) → elements p ch ≡ true
       → fileReport p (headerText memory size count ch ++ fillText p bytes) ≡ acceptance memory size count (filledRows memory count inits ops)
 
 -- (FilledFile: filling-accepted)

@@ -2,10 +2,10 @@
 -- definitions; they are total, for every state and every row. A counter that has reached the largest number of its type stays there.
 -- Assumes nothing.
 use Prim.Native.Nat.{ℕ, _+_, _-_, min}
-use mathlib.Core.Bool.{Bool, true, false, _&&_, _||_, not, cond}
+use mathlib.Core.Bool.{Bool, true, false, _&&_, not, cond}
 use mathlib.Core.List.{List, [], _∷_, _++_, map}
 use lib.Dec.{eqb, leb, ltb}
-use Rattle.algebra.specs.Modulo.{minus, times}
+use Rattle.algebra.specs.Modulo.{times}
 use Rattle.algebra.specs.Hash.{hashFrom}
 use Rattle.memory.specs.declared.Memory.{Memory}
 use Rattle.memory.specs.declared.Memory.the-variants.{Ram, Rom, Set, Stack, Queue}
@@ -23,7 +23,7 @@ use Rattle.memory.specs.declared.Report.{Report}
 use Rattle.memory.specs.Bytes.{Line}
 use Rattle.memory.specs.Names.{isOp}
 use Rattle.memory.specs.Rows.{raiseBy, lowerBy, endsDue, rangesDue, phaseAt, opsDue, opIn, formed, depthFactor, rowBelow, parseRow}
-use Rattle.memory.specs.Equations.{Triple, triple, pair, Lookup, factor, lookRead, lookWrite, setInit, memberRead, memberWrite, rangeRead, rangeWrite, accessRead, newOf, pushWrite, popRead, popLookup}
+use Rattle.memory.specs.Equations.{Triple, Lookup, factor, initWrite, lookRead, lookWrite, romEnd, setInit, memberRead, memberWrite, rangeSet, rangeRead, rangeWrite, rangeEnd, accessRead, accessWrite, accessLookup, cellEnd, pushWrite, popRead, popLookup, enqueueElements, dequeueElements, endElement}
 use Rattle.memory.specs.Gates.{rowInputs, rowMults}
 use Rattle.memory.specs.File.{refused, valuesFault, Opening, opens, shut}
 
@@ -120,17 +120,17 @@ rangePlace c = c .passed - (c .size + c .count + endsDue (c .memory) (c .size) (
 -- the lookups in the range that a row makes
 unfoldable pub lookupsBy : ℕ → Context → Row → List Lookup
 lookupsBy q c row =
-    cond (isOp (row .op) Access) (record { age = minus q (ramClock c) (row .time); version = row .version } ∷ [])
+    cond (isOp (row .op) Access) (accessLookup q (ramClock c) row ∷ [])
     (popLookup q (c .pushed) row)
 
 -- the records that a row writes to the memory's shuffle, by memory and op
 unfoldable pub writtenBy : ℕ → Context → Row → Memory → Op → List Triple
 writtenBy q c row Set Init = setInit row ∷ []
-writtenBy q c row Ram Init = triple (c .passed) (row .value) 0 ∷ []
-writtenBy q c row Rom Init = triple (c .passed) (row .value) 0 ∷ []
+writtenBy q c row Ram Init = initWrite (c .passed) row ∷ []
+writtenBy q c row Rom Init = initWrite (c .passed) row ∷ []
 writtenBy q c row Stack Init = []
 writtenBy q c row Queue Init = []
-writtenBy q c row m Access = triple (row .addr) (newOf row) (ramClock c) ∷ []
+writtenBy q c row m Access = accessWrite (ramClock c) row ∷ []
 writtenBy q c row m Look = lookWrite q row ∷ []
 writtenBy q c row m Member = memberWrite q row ∷ []
 writtenBy q c row m Push = pushWrite q (c .pushed) (c .popped) row
@@ -151,33 +151,33 @@ readBy q c row m Push = []
 readBy q c row m Pop = popRead q (c .pushed) (c .popped) row
 readBy q c row m Enqueue = []
 readBy q c row m Dequeue = []
-readBy q c row Ram End = triple (endPlace c) (row .old) (row .time) ∷ []
-readBy q c row Rom End = triple (endPlace c) (row .value) (row .version) ∷ []
+readBy q c row Ram End = cellEnd (endPlace c) row ∷ []
+readBy q c row Rom End = romEnd (endPlace c) row ∷ []
 readBy q c row Set End = memberRead row ∷ []
-readBy q c row Stack End = triple (endPlace c + 1) (row .old) (row .time) ∷ []
+readBy q c row Stack End = cellEnd (endPlace c + 1) row ∷ []
 readBy q c row Queue End = []
 readBy q c row m Range = []
 readBy q c row m Other = []
 
 -- the pairs that a row writes to the range's shuffle; the setup of the number i comes with range row i
 unfoldable pub suppliedBy : ℕ → Context → Row → List Triple
-suppliedBy q c row = map (rangeWrite q) (lookupsBy q c row) ++ cond (isOp (row .op) Range) (pair (rangePlace c + 1) 0 ∷ []) []
+suppliedBy q c row = map (rangeWrite q) (lookupsBy q c row) ++ cond (isOp (row .op) Range) (rangeSet (rangePlace c + 1) ∷ []) []
 
 -- the pairs that a row reads from the range's shuffle
 unfoldable pub lookedBy : ℕ → Context → Row → List Triple
 lookedBy q c row =
-    map rangeRead (lookupsBy q c row) ++ cond (isOp (row .op) Range) (pair (rangePlace c + 1) (row .version) ∷ []) []
+    map rangeRead (lookupsBy q c row) ++ cond (isOp (row .op) Range) (rangeEnd (rangePlace c + 1) row ∷ []) []
 
 -- the elements that a row adds to the queue's two hashes
 unfoldable pub enqueuedBy : Row → List ℕ
-enqueuedBy row = cond (isOp (row .op) Enqueue && eqb (row .guard) 1) (row .value ∷ []) []
+enqueuedBy row = enqueueElements row
 
 unfoldable pub dequeuedBy : Memory → Row → List ℕ
 dequeuedBy Ram row = []
 dequeuedBy Rom row = []
 dequeuedBy Set row = []
 dequeuedBy Stack row = []
-dequeuedBy Queue row = cond (isOp (row .op) End || (isOp (row .op) Dequeue && eqb (row .guard) 1)) (row .old ∷ []) []
+dequeuedBy Queue row = cond (isOp (row .op) End) (endElement row ∷ []) (dequeueElements row)
 
 -- a running product times the factors of records
 unfoldable pub multiplied : ℕ → Challenge → ℕ → List Triple → ℕ
