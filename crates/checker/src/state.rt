@@ -4,7 +4,7 @@ use memory::Row;
 use memory::State;
 ghost use mathlib.Core.Path.{_≡_};
 ghost use Rattle.field.specs.Field.{p};
-ghost use Rattle.memory.specs.Step.{takesRows, refuseAt, refuseNext, refuseLast, withContext, takeRow, ends};
+ghost use Rattle.memory.specs.Step.{takesRows, refuseAt, refuseNext, refuseLast, withContext, takeRow, accepting};
 
 // "After a refusal or the end of file a state is fixed".
 pub(crate) fn takes_rows(c: Context) -> bool
@@ -43,7 +43,7 @@ pub(crate) fn refuse_last(s: State, fault: u32) -> State
 
 // The accepted end of file.
 pub(crate) fn accept(s: State) -> State
-    ensures { λ r. ⌜ r ≡ withContext s (ends (s .context)) ⌝ }
+    ensures { λ r. ⌜ r ≡ withContext s (accepting (s .context)) ⌝ }
 {
     let mut c = s.context;
     c.answer = 0;

@@ -23,7 +23,7 @@ use Rattle.memory.specs.Bytes.{Line, allBelow}
 use Rattle.memory.specs.Rows.{allowed, raised, lowered, depthProduct, rowBelow, parseRow, dueAfter, rowFault, parsedFault, lineFault}
 use Rattle.memory.specs.Gates.{inputsOf, multsOf}
 use Rattle.memory.specs.File.{parsedRow, rowsOf, parseRows, Refusal, refusal, firstFault, refused, accepted, balanceReport, rowsReport, valuesFault, valuesReport}
-use Rattle.memory.specs.Step.{raise, takesRows, due, refuseAt, refuseNext, refuseLast, passed, withContext, takeRow, takeParsed, stepOf, rowOf, ends, endOf, reportOf, freshContext, freshProducts, freshOf, multiplied, stepsOf, runOf}
+use Rattle.memory.specs.Step.{raise, takesRows, due, refuseAt, refuseNext, refuseLast, passedRow, withContext, takeRow, takeParsed, stepOf, rowOf, accepting, endOf, reportOf, freshContext, freshProducts, freshOf, multiplied, stepsOf, runOf}
 use Rattle.memory.specs.Equations.{fileLists, rangeBalances, memoryBalances}
 use Rattle.memory.specs.Bound.{accepts, rowsIn}
 use Rattle.memory.specs.Statements.{FoldIsFile, RunIsFile, FixedState, EndedState, AcceptsExactlyWhen, Holds}
@@ -46,8 +46,8 @@ takes-none c f l e = rw e (and-false (not (c .ended)))
 
 -- whatever the tests at the end of file give, the context takes no rows
 ended-context : (c : Context) (missing range memory : Bool)
-    → takesRows (cond missing (refuseNext c 7) (cond range (cond memory (ends c) (refuseLast c 10)) (refuseLast c 9))) ≡ false
-unfolding refuseNext refuseLast ends takesRows
+    → takesRows (cond missing (refuseNext c 7) (cond range (cond memory (accepting c) (refuseLast c 10)) (refuseLast c 9))) ≡ false
+unfolding refuseNext refuseLast accepting takesRows
 ended-context c true range memory = takes-none c 7 _ refl
 ended-context c false false memory = takes-none c 9 _ refl
 ended-context c false true false = takes-none c 10 _ refl
@@ -93,7 +93,7 @@ unless f r = cond (eqb (f .number) 0) r (refused (f .number) (f .line))
 -- the end of file after rows that have passed
 end-of-rows : (q : ℕ) (m : Memory) (n t : ℕ) (ch : Challenge) (rows : List Row) → Bounded n t rows
     → reportOf (endOf (stateOf q m n t ch rows)) ≡ unless (firstFault q m n t rows []) (closing q m n t ch rows)
-unfolding endOf stateOf contextOf takesRows due dueAfter firstFault closing verdict reportOf withContext refuseNext refuseLast refuseAt ends unless refusal accepted
+unfolding endOf stateOf contextOf takesRows due dueAfter firstFault closing verdict reportOf withContext refuseNext refuseLast refuseAt accepting unless refusal accepted
 end-of-rows q m n t ch rows b =
     pick (ltb (length rows) (dueAfter m n t rows)) (eqb (ps .supplied) (ps .looked)) (eqb (ps .written) (ps .read) && eqb (ps .enqueued) (ps .dequeued))
   where
@@ -104,7 +104,7 @@ end-of-rows q m n t ch rows b =
         → reportOf
         (withContext (stateOf q m n t ch rows)
         (cond missing (refuseNext (contextOf q m n t rows) 7)
-        (cond range (cond memory (ends (contextOf q m n t rows)) (refuseLast (contextOf q m n t rows) 10)) (refuseLast (contextOf q m n t rows) 9))))
+        (cond range (cond memory (accepting (contextOf q m n t rows)) (refuseLast (contextOf q m n t rows) 10)) (refuseLast (contextOf q m n t rows) 9))))
         ≡ unless (cond missing (refusal 7 (length rows + 4)) (refusal 0 0))
         (cond range (cond memory (accepted m rows) (refused 10 (length rows + 3))) (refused 9 (length rows + 3)))
     pick true range memory = ap (refused 7) (next-line b)
@@ -133,7 +133,7 @@ step-large q m n t ch rows row e large = rw (e, large)
 step-row : (q : ℕ) (m : Memory) (n t : ℕ) (ch : Challenge) (rows : List Row) (row : Row) → ltb (length rows) (dueAfter m n t rows) ≡ true
     → rowBelow q row ≡ true → Bounded n t rows
     → stepOf q (stateOf q m n t ch rows) (Sound row)
-    ≡ cond (eqb (rowFault q m n t rows row) 0) (passed q (stateOf q m n t ch rows) row)
+    ≡ cond (eqb (rowFault q m n t rows row) 0) (passedRow q (stateOf q m n t ch rows) row)
     (withContext (stateOf q m n t ch rows) (refuseNext (contextOf q m n t rows) (rowFault q m n t rows row)))
 unfolding stepOf stateOf contextOf takesRows due dueAfter takeParsed takeRow
 step-row q m n t ch rows row e r b = rw (e, r, ← (step-fault q m n t rows row b))

@@ -17,7 +17,7 @@ use Rattle.memory.specs.declared.Challenge.{Challenge}
 use Rattle.memory.specs.declared.State.{State}
 use Rattle.memory.specs.Rows.{limit, sized, allowed, raiseBy, lowerBy, raised, lowered, endsDue, rangesDue, opsDue, opIn, formed, depthFactor, depthProduct, sunk, dueAfter, phaseAfter, rowFault}
 use Rattle.memory.specs.Gates.{rowInputs, rowMults, inputsOf, multsOf}
-use Rattle.memory.specs.Step.{top, raise, phase, pass, sinks, stepFault, multiply, passed}
+use Rattle.memory.specs.Step.{top, raise, phase, pass, sinks, stepFault, multiply, passedRow}
 use Rattle.memory.proofs.Counted.{length-snoc, raised-snoc, lowered-snoc, inputs-snoc, mults-snoc, depth-snoc, inputs-bound, mults-bound}
 use Rattle.memory.proofs.Due.{Passes, due-form, raise-of-form, lower-of-form, quiet-after}
 use Rattle.memory.proofs.Emitted.{contextOf, emitted, emitted-snoc, productsOf, multiply-emits}
@@ -166,8 +166,8 @@ pass-context q m n t rows row f b = λ i. record {
 
 -- and its state to that of one row more
 pub passed-state : (q : ℕ) (m : Memory) (n t : ℕ) (ch : Challenge) (rows : List Row) (row : Row) → formed m row ≡ true → Bounded n t rows
-    → passed q (stateOf q m n t ch rows) row ≡ stateOf q m n t ch (rows ++ row ∷ [])
-unfolding passed stateOf
+    → passedRow q (stateOf q m n t ch rows) row ≡ stateOf q m n t ch (rows ++ row ∷ [])
+unfolding passedRow stateOf
 passed-state q m n t ch rows row f b = λ i. record {
   context = pass-context q m n t rows row f b i;
   challenge = ch;

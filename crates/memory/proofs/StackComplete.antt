@@ -229,12 +229,13 @@ complete-skipped-push q t i is rest cells up down clock ages depth ticks left be
 complete-skipped-pop : (q t : ℕ) (i : Input) (is : List Input) → t + 1 < q → Complete q t is → Complete q t (inputAt Pop 0 i ∷ is)
 unfolding inputAt isOp opCode raiseBy lowerBy raised lowered pushWrite pushWrites popRead popReads popLookup popLookups operationOf allFit fits after impossible inputOperation possible bare filledRow stackAge stackRow stackCells stackClock stackOps stackAges stackFinalCells agesAfter keysAfter popTime
 complete-skipped-pop q t i is room rest cells up down clock ages depth ticks left before can =
-    let age = clock - (clock - 1) in
+    let time = popTime cells clock (inputAt Pop 0 i) in
+    let age = clock - time in
     let r = rest cells (up + 0) (down + 0) clock (age ∷ ages) (omega arith) (omega arith) (omega arith) before can in
     record {
       balance = r .balance;
       depth = omega (arith, r .depth);
-      lookups = lookup-cons _ age ages _ _ (age-exact q up clock (clock - 1) ticks (omega arith) (omega arith)) (r .lookups);
+      lookups = lookup-cons _ age ages _ _ (age-exact q up clock time ticks (omega arith) (omega arith)) (r .lookups);
       range = ((omega arith, omega arith), r .range);
     }
 

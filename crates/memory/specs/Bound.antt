@@ -12,7 +12,7 @@ use Rattle.memory.specs.declared.Memory.the-variants.{Ram, Rom, Set, Sta
 use Rattle.memory.specs.declared.Row.{Row}
 use Rattle.memory.specs.declared.Challenge.{Challenge}
 use Rattle.memory.specs.Bytes.{Line, allBelow}
-use Rattle.memory.specs.Rows.{allowed, operationRows}
+use Rattle.memory.specs.Rows.{allowed, operationRows, rowFields}
 use Rattle.memory.specs.Equations.{enqueues}
 use Rattle.memory.specs.Gates.{takes}
 use Rattle.memory.specs.File.{firstFault, rowsOf, parseRows}
@@ -66,8 +66,8 @@ fillingFor q m n t rows output scratch = fillOf q (memoryCode m) n t (inputNumbe
 pub record Advised (q : ℕ) (m : Memory) (n t : ℕ) (rows : List Row) : Type 0 where
   pub output : List ℕ
   pub scratch : List ℕ
-  pub outputRoom : 7 * room n t ≤ length output
+  pub outputRoom : rowFields * room n t ≤ length output
   pub scratchRoom : room n t ≤ length scratch
   pub filled : fillingFor q m n t rows output scratch .answer ≡ 0
   pub counted : fillingFor q m n t rows output scratch .count ≡ length rows
-  pub written : take (7 * length rows) (fillingFor q m n t rows output scratch .output) ≡ rowNumbers rows
+  pub written : take (rowFields * length rows) (fillingFor q m n t rows output scratch .output) ≡ rowNumbers rows

@@ -41,9 +41,15 @@ unfoldable pub fields : List ℕ → List (List ℕ)
 fields [] = [] ∷ []
 fields (b ∷ bs) = cond (eqb b comma) ([] ∷ fields bs) (onto b (fields bs))
 
--- "Numbers are unsigned decimal"
+-- "Numbers are unsigned decimal": the bytes `0` and `9`, and those between
+abbrev pub zeroByte : ℕ
+zeroByte = 48
+
+abbrev pub nineByte : ℕ
+nineByte = 57
+
 unfoldable pub digit : ℕ → Bool
-digit b = leb 48 b && leb b 57
+digit b = leb zeroByte b && leb b nineByte
 
 unfoldable pub digits : List ℕ → Bool
 digits [] = true
@@ -52,11 +58,15 @@ digits (b ∷ bs) = digit b && digits bs
 -- the number that digits stand for, read from the left, after the number `n` of the digits before them
 unfoldable pub decimalFrom : ℕ → List ℕ → ℕ
 decimalFrom n [] = n
-decimalFrom n (b ∷ bs) = decimalFrom (n * 10 + (b - 48)) bs
+decimalFrom n (b ∷ bs) = decimalFrom (n * 10 + (b - zeroByte)) bs
 
 -- 2: "a number empty, over 10 digits, with a leading zero (0 itself is fine) or not digits"
+abbrev pub mostDigits : ℕ
+mostDigits = 10
+
 unfoldable pub numeral : List ℕ → Bool
-numeral text = (leb 1 (length text) && leb (length text) 10) && (digits text && (eqb (length text) 1 || not (eqb (getD text 0 0) 48)))
+numeral text =
+    (leb 1 (length text) && leb (length text) mostDigits) && (digits text && (eqb (length text) 1 || not (eqb (getD text 0 0) zeroByte)))
 
 -- the numbers of a list of fields, where each field is one
 unfoldable pub numerals : List (List ℕ) → Bool

@@ -42,14 +42,21 @@ pub record Refusal : Type 0 where
 unfoldable pub refusal : ℕ → ℕ → Refusal
 refusal f l = record { number = f; line = l }
 
+-- the rows begin on line 4, after three lines
+abbrev pub headLines : ℕ
+headLines = 3
+
+abbrev pub firstLine : ℕ
+firstLine = 4
+
 -- "the first fault in line order wins": the lines after the rows that have passed; the row after k rows stands on line k + 4.
 -- 7: "file ends early, or a line follows the last due row"; "The line of 7 is the missing or surplus one"
 unfoldable pub firstFault : ℕ → Memory → ℕ → ℕ → List Row → List Parsed → Refusal
-firstFault q m n t rows [] = cond (ltb (length rows) (dueAfter m n t rows)) (refusal 7 (length rows + 4)) (refusal 0 0)
+firstFault q m n t rows [] = cond (ltb (length rows) (dueAfter m n t rows)) (refusal 7 (length rows + firstLine)) (refusal 0 0)
 firstFault q m n t rows (x ∷ xs) =
     let f = lineFault q m n t rows x in
     let rest = firstFault q m n t (rows ++ parsedRow x ∷ []) xs in
-    cond (eqb f 0) rest (refusal f (length rows + 4))
+    cond (eqb f 0) rest (refusal f (length rows + firstLine))
 
 -- what is printed of a refused file, and of an accepted one: "answer (0 accept), line (0 if accepted), inputs, multiplications (0 if refused)"
 unfoldable pub refused : ℕ → ℕ → Report
@@ -63,8 +70,8 @@ unfoldable pub balanceReport : ℕ → Memory → ℕ → ℕ → Challenge → 
 balanceReport q m n t ch rows =
     let l = fileLists q m n t rows in
     cond (rangeBalances q ch l)
-    (cond (memoryBalances q ch l) (accepted m rows) (refused 10 (length rows + 3)))
-    (refused 9 (length rows + 3))
+    (cond (memoryBalances q ch l) (accepted m rows) (refused 10 (length rows + headLines)))
+    (refused 9 (length rows + headLines))
 
 -- 9 and 10 are looked for only where no line is refused
 unfoldable pub rowsReport : ℕ → Memory → ℕ → ℕ → Challenge → List Parsed → Report
@@ -101,10 +108,14 @@ openingOfFields q fs =
     let ns = numbers (drop 1 fs) in
     cond (numerals (drop 1 fs)) (cond (allBelow q ns) (openedBy (memoryNamed (getD fs 0 [])) ns) (shut 3)) (shut 2)
 
+-- the fields of a value line: `memory,size,count,r,a,b,c`
+abbrev pub valueFields : ℕ
+valueFields = 7
+
 unfoldable pub parseValues : ℕ → Line → Opening
 parseValues q line =
     cond (fitting line)
-    (cond (eqb (length (fields (line .text))) 7) (openingOfFields q (fields (line .text))) (shut 2))
+    (cond (eqb (length (fields (line .text))) valueFields) (openingOfFields q (fields (line .text))) (shut 2))
     (shut 2)
 
 -- the fault of a names line, or 0. 1: "line 1 or 3, without its line feed, is not the names line"; 2: "without line feed"

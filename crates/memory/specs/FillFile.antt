@@ -11,7 +11,7 @@ use Rattle.memory.specs.declared.Phase.the-variants.{Starting, Operating
 use Rattle.memory.specs.Bytes.{Line, fitting, fields, numerals, numbers, allBelow, linesOf}
 use Rattle.memory.specs.Names.{fillNames, inputNames, memoryNamed, opNamed}
 use Rattle.memory.specs.Rows.{allowed, opsDue}
-use Rattle.memory.specs.File.{Refusal, refusal, namesFault}
+use Rattle.memory.specs.File.{headLines, firstLine, Refusal, refusal, namesFault}
 use Rattle.memory.specs.Honest.{Input, filledRows}
 use Rattle.memory.specs.Filler.{inputFault, rowsFault}
 use Rattle.memory.specs.Print.{refusalText, filledText}
@@ -37,10 +37,14 @@ jobOfFields q fs =
     let ns = numbers (drop 1 fs) in
     cond (numerals (drop 1 fs)) (cond (allBelow q ns) (jobOf (memoryNamed (getD fs 0 [])) (getD ns 0 0) (getD ns 1 0)) (noJob 3)) (noJob 2)
 
+-- the fields of a value line: `memory,size,count`
+abbrev pub jobFields : ℕ
+jobFields = 3
+
 unfoldable pub parseJob : ℕ → Line → Job
 parseJob q line =
     cond (fitting line)
-    (cond (eqb (length (fields (line .text))) 3) (jobOfFields q (fields (line .text))) (noJob 2))
+    (cond (eqb (length (fields (line .text))) jobFields) (jobOfFields q (fields (line .text))) (noJob 2))
     (noJob 2)
 
 -- What a row line of the filler's input reads as: the row, or its fault 2 or 3
@@ -57,10 +61,14 @@ inputOfFields q fs =
     (faulty 3))
     (faulty 2)
 
+-- the fields of a row line: `op,guard,addr,value`
+abbrev pub inputFields : ℕ
+inputFields = 4
+
 unfoldable pub parseInput : ℕ → Line → InputLine
 parseInput q line =
     cond (fitting line)
-    (cond (eqb (length (fields (line .text))) 4) (inputOfFields q (fields (line .text))) (faulty 2))
+    (cond (eqb (length (fields (line .text))) inputFields) (inputOfFields q (fields (line .text))) (faulty 2))
     (faulty 2)
 
 -- the row after k rows is an init row or an operation; its fault by its form, or 0
@@ -70,11 +78,11 @@ inputLineFault q m n k (faulty f) = f
 
 -- "1 to 7 by line": the first fault of the row lines, the first of which is the row after k rows, on line k + 4; size + count rows are due
 unfoldable pub inputsFault : ℕ → Memory → ℕ → ℕ → ℕ → List InputLine → Refusal
-inputsFault q m n t k [] = cond (ltb k (n + t)) (refusal 7 (k + 4)) (refusal 0 0)
+inputsFault q m n t k [] = cond (ltb k (n + t)) (refusal 7 (k + firstLine)) (refusal 0 0)
 inputsFault q m n t k (x ∷ xs) =
     let f = cond (ltb k (n + t)) (inputLineFault q m n k x) 7 in
     let rest = inputsFault q m n t (suc k) xs in
-    cond (eqb f 0) rest (refusal f (k + 4))
+    cond (eqb f 0) rest (refusal f (k + firstLine))
 
 unfoldable pub inputOfLine : InputLine → List Input
 inputOfLine (sound i) = i ∷ []
@@ -88,7 +96,7 @@ inputsOfLines (x ∷ xs) = inputOfLine x ++ inputsOfLines xs
 unfoldable pub runText : ℕ → Memory → ℕ → ℕ → List Input → List ℕ
 runText q m n t rows =
     let f = rowsFault q m (map (λ i. i .value) (take n rows)) 1 (take n rows) (drop n rows) in
-    cond (eqb (f .number) 0) (filledText (filledRows m t (take n rows) (drop n rows))) (refusalText (f .number) (f .place + 3))
+    cond (eqb (f .number) 0) (filledText (filledRows m t (take n rows) (drop n rows))) (refusalText (f .number) (f .place + headLines))
 
 unfoldable pub inputsText : ℕ → Memory → ℕ → ℕ → List InputLine → List ℕ
 inputsText q m n t xs =

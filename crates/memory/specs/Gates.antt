@@ -110,18 +110,18 @@ puts rows = rowsWith Push rows + rowsWith Enqueue rows
 unfoldable pub takes : List Row → ℕ
 takes rows = rowsWith Pop rows + rowsWith Dequeue rows
 
--- the table: inputs, by memory, n, T, P, Q, D
+-- the table: inputs, by memory, n, T, P (`puts`), Q (`takes`), D (`depth`)
 unfoldable pub inputsFormula : Memory → ℕ → ℕ → ℕ → ℕ → ℕ → ℕ
-inputsFormula Ram n t p q d = 4 * t + 2 * n
-inputsFormula Rom n t p q d = 2 * t + n
-inputsFormula Set n t p q d = t + n
-inputsFormula Stack n t p q d = 3 * q + t + 2 * d
-inputsFormula Queue n t p q d = q + d
+inputsFormula Ram n t puts takes depth = 4 * t + 2 * n
+inputsFormula Rom n t puts takes depth = 2 * t + n
+inputsFormula Set n t puts takes depth = t + n
+inputsFormula Stack n t puts takes depth = 3 * takes + t + 2 * depth
+inputsFormula Queue n t puts takes depth = takes + depth
 
 -- the table: multiplications
 unfoldable pub multsFormula : Memory → ℕ → ℕ → ℕ → ℕ → ℕ → ℕ
-multsFormula Ram n t p q d = 6 * t + 2 * n
-multsFormula Rom n t p q d = 2 * t + 2 * n
-multsFormula Set n t p q d = 2 * t + 2 * n
-multsFormula Stack n t p q d = 2 * p + 4 * q + t + d
-multsFormula Queue n t p q d = 2 * p + 3 * q + d
+multsFormula Ram n t puts takes depth = 6 * t + 2 * n
+multsFormula Rom n t puts takes depth = 2 * t + 2 * n
+multsFormula Set n t puts takes depth = 2 * t + 2 * n
+multsFormula Stack n t puts takes depth = 2 * puts + 4 * takes + t + depth
+multsFormula Queue n t puts takes depth = 2 * puts + 3 * takes + depth

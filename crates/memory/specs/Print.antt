@@ -8,15 +8,15 @@ use Rattle.memory.specs.declared.Memory.{Memory}
 use Rattle.memory.specs.declared.Row.{Row}
 use Rattle.memory.specs.declared.Challenge.{Challenge}
 use Rattle.memory.specs.declared.Report.{Report}
-use Rattle.memory.specs.Bytes.{comma, feed}
+use Rattle.memory.specs.Bytes.{comma, feed, zeroByte}
 use Rattle.memory.specs.Names.{valueNames, memoryName, opName, rowNames, reportNames, refusalNames}
 
 -- "Numbers are unsigned decimal": the digits of n before the bytes `rest`, for a number of at most `most` digits
 unfoldable pub digitsOnto : ℕ → ℕ → List ℕ → List ℕ
 digitsOnto zero n rest = rest
 digitsOnto (suc most) n rest =
-    let more = digitsOnto most (n / 10) ((48 + n % 10) ∷ rest) in
-    cond (ltb n 10) ((48 + n) ∷ rest) more
+    let more = digitsOnto most (n / 10) ((zeroByte + n % 10) ∷ rest) in
+    cond (ltb n 10) ((zeroByte + n) ∷ rest) more
 
 -- a number of at most 20 digits
 unfoldable pub numberText : ℕ → List ℕ

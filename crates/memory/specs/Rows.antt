@@ -162,12 +162,16 @@ rowOfFields q fs =
     (Fault 3))
     (Fault 2)
 
+-- the fields of a row line: `op,guard,addr,value,old,time,version`
+abbrev pub rowFields : ℕ
+rowFields = 7
+
 -- what a row line reads as. 2: "wrong number of fields, a number empty, over 10 digits, with a leading zero (0 itself is fine) or not digits, line too
 -- long or without line feed"; 3: "a number is p or more"
 unfoldable pub parseRow : ℕ → Line → Parsed
 parseRow q line =
     cond (fitting line)
-    (cond (eqb (length (fields (line .text))) 7) (rowOfFields q (fields (line .text))) (Fault 2))
+    (cond (eqb (length (fields (line .text))) rowFields) (rowOfFields q (fields (line .text))) (Fault 2))
     (Fault 2)
 
 -- the queue's product: "Each dequeue multiplies a product by depth + 1 − guard, before depth falls by guard", after `up` executed enqueues and `down` executed dequeues

@@ -25,7 +25,7 @@ use Rattle.memory.specs.Names.{isOp}
 use Rattle.memory.specs.Rows.{raiseBy, lowerBy, endsDue, rangesDue, phaseAt, opsDue, opIn, formed, depthFactor, rowBelow, parseRow}
 use Rattle.memory.specs.Equations.{Triple, Lookup, factor, initWrite, lookRead, lookWrite, romEnd, setInit, memberRead, memberWrite, rangeSet, rangeRead, rangeWrite, rangeEnd, accessRead, accessWrite, accessLookup, cellEnd, pushWrite, popRead, popLookup, enqueueElements, dequeueElements, endElement}
 use Rattle.memory.specs.Gates.{rowInputs, rowMults}
-use Rattle.memory.specs.File.{refused, valuesFault, Opening, opens, shut}
+use Rattle.memory.specs.File.{headLines, firstLine, refused, valuesFault, Opening, opens, shut}
 
 -- the largest number of a counter
 unfoldable pub top : ℕ
@@ -62,12 +62,12 @@ refuseAt c f l = record {
   ended = c .ended;
 }
 
--- the next row stands on line passed + 4, the last one that has passed on line passed + 3
+-- on the line of the next row, and of the last one that has passed
 unfoldable pub refuseNext : Context → ℕ → Context
-refuseNext c f = refuseAt c f (raise (c .passed) 4)
+refuseNext c f = refuseAt c f (raise (c .passed) firstLine)
 
 unfoldable pub refuseLast : Context → ℕ → Context
-refuseLast c f = refuseAt c f (raise (c .passed) 3)
+refuseLast c f = refuseAt c f (raise (c .passed) headLines)
 
 -- a row has passed
 unfoldable pub pass : ℕ → Context → Row → Context
@@ -199,8 +199,8 @@ unfoldable pub withContext : State → Context → State
 withContext s c = record { context = c; challenge = s .challenge; products = s .products }
 
 -- a row that has passed
-unfoldable pub passed : ℕ → State → Row → State
-passed q s row = record {
+unfoldable pub passedRow : ℕ → State → Row → State
+passedRow q s row = record {
   context = pass q (s .context) row;
   challenge = s .challenge;
   products = multiply q (s .challenge) (s .context) row (s .products);
@@ -209,7 +209,7 @@ passed q s row = record {
 -- a row that is due: it passes, or its fault is the refusal
 unfoldable pub takeRow : ℕ → State → Row → State
 takeRow q s row =
-    cond (eqb (stepFault q (s .context) row) 0) (passed q s row)
+    cond (eqb (stepFault q (s .context) row) 0) (passedRow q s row)
     (withContext s (refuseNext (s .context) (stepFault q (s .context) row)))
 
 -- what a line reads as: a row with a number of q or more is 3, and a fault that is not 3 is 2
@@ -229,8 +229,8 @@ unfoldable pub rowOf : ℕ → State → Line → State
 rowOf q s line = stepOf q s (parseRow q line)
 
 -- a context at its accepted end
-unfoldable pub ends : Context → Context
-ends c = record {
+unfoldable pub accepting : Context → Context
+accepting c = record {
   memory = c .memory;
   size = c .size;
   count = c .count;
@@ -254,7 +254,7 @@ endOf s =
     (withContext s
     (cond (ltb (c .passed) (due c)) (refuseNext c 7)
     (cond (eqb (ps .supplied) (ps .looked))
-    (cond (eqb (ps .written) (ps .read) && eqb (ps .enqueued) (ps .dequeued)) (ends c) (refuseLast c 10))
+    (cond (eqb (ps .written) (ps .read) && eqb (ps .enqueued) (ps .dequeued)) (accepting c) (refuseLast c 10))
     (refuseLast c 9))))
     s
 
@@ -263,7 +263,7 @@ unfoldable pub reportOf : State → Report
 reportOf s =
     let c = s .context in
     cond (eqb (c .answer) 0)
-    (cond (c .ended) (record { answer = 0; line = 0; inputs = c .inputs; mults = c .mults }) (refused 7 (raise (c .passed) 4)))
+    (cond (c .ended) (record { answer = 0; line = 0; inputs = c .inputs; mults = c .mults }) (refused 7 (raise (c .passed) firstLine)))
     (refused (c .answer) (c .line))
 
 -- the state of a memory, size, count and challenge before any row: products start at 1, hashes at 0
