@@ -14,15 +14,16 @@ use Rattle.memory.specs.Print.{filledText, refusalText}
 use Rattle.memory.specs.Pieces.{piece, lastIn, endIn}
 use Rattle.memory.specs.FillStream.{Gathered, gathered, rowsDue, lineTaken, endTaken, dueWords}
 use Rattle.memory.proofs.FillStream.{end-values}
+use Rattle.pieces.specs.Calls.{standsFor}
+use Rattle.pieces.proofs.Parts.{take-within}
 use Rattle.filler.specs.declared.Filled.{Filled}
 use Rattle.filler.specs.declared.Filled.the-variants.{Rows, Refused}
 use Rattle.filler.specs.Answer.{answerOf, placeOf, countOf, fillingOf}
 use Rattle.print.specs.declared.Put.{Put}
 use Rattle.print.proofs.Written.{put-text}
 use Rattle.fillfile.specs.declared.Progress.{Progress}
-use Rattle.fillfile.specs.Progress.{progressOf}
+use Rattle.fillfile.specs.Progress.{leftBy}
 use Rattle.fillfile.specs.Ending.{outputRows, filledOr, answerText, Ending, endedBy, refusedWith, endingOf, Ended, endOf, Finished}
-use Rattle.fillfile.proofs.Parts.{take-within}
 use Rattle.fillfile.proofs.Texts.{Putting}
 
 -- the library's answer: rows, a refusal that is none, and a refusal
@@ -87,11 +88,11 @@ module _ (i : Intake) (ws out scratch text : List ℕ) {x : Intake} (end : x ≡
 -- the end of input, with the kept bytes at the front of the buffer
 pub finished : (was : Progress) (buffer words : List ℕ) (count : ℕ) → count ≡ min (was .kept) (length buffer) → (i : Intake) (stored : List ℕ)
     → gathered i stored ≡ lastIn (lineTaken p) (gathered (was .intake) words) (take count buffer) → (out filled scratch cleared text printed : List ℕ) (r : Put)
-    → Ended (gathered i stored) out filled scratch cleared text printed r → Finished was buffer words stored out filled scratch cleared text printed r
-unfolding endOf endIn progressOf piece gathered
+    → Ended (gathered i stored) out filled scratch cleared text printed r → Finished (leftBy was words buffer) stored out filled scratch cleared text printed r
+unfolding endOf endIn standsFor leftBy piece gathered
 finished was buffer words count counts i stored last out filled scratch cleared text printed r ended =
     let front : take count buffer ≡ take (was .kept) buffer = ap (λ (n : ℕ). take n buffer) counts ∙ take-within (was .kept) buffer in
-    let whole : gathered i stored ≡ endOf was words buffer =
+    let whole : gathered i stored ≡ endOf (leftBy was words buffer) =
     last ∙ ap (lastIn (lineTaken p) (gathered (was .intake) words)) front in
     record {
       rows = ap (λ (g : Gathered). g .words) whole;

@@ -3,16 +3,13 @@
 use Prim.Native.Nat.{ℕ, _≤_, _<_}
 use native.Mathlib.Omega.{arith}
 use mathlib.Core.Path.{_≡_, refl}
-use mathlib.Core.Bool.{false}
-use mathlib.Core.List.{List, [], _∷_}
-use lib.ListN.{length}
+use mathlib.Core.List.{List}
 use borrow.Author.Tests.{eq-eqb, ne-eqb, lt-ltb, le-ltb}
 use Rattle.memory.specs.declared.Intake.{Intake}
 use Rattle.memory.specs.Bytes.{Line}
 use Rattle.memory.specs.Names.{fillNames, inputNames}
 use Rattle.memory.specs.File.{namesFault}
 use Rattle.memory.specs.FillFile.{parseJob}
-use Rattle.memory.specs.Pieces.{lastIn}
 use Rattle.memory.specs.FillStream.{gathered, refuseOn, namesTaken, jobTaken, rowsDue, refuseRow, rowTaken, openLine, lineTaken, endFault, endTaken}
 
 module _ (q : ℕ) (i : Intake) (ws : List ℕ) (line : Line) where
@@ -71,15 +68,3 @@ module _ (i : Intake) (unrefused : i .answer ≡ 0) where
     end-whole h =
         rw (eq-eqb (i .answer) 0 unrefused, ne-eqb (i .place) 1 one, ne-eqb (i .place) 2 two, ne-eqb (i .place) 3 three, le-ltb (i .passed) (rowsDue i) h)
         refl
-
--- the last line, where the input ends between two lines, and where it does not
-module _ {S : Type 0} (line : S → Line → S) (s : S) where
-  pub last-none : (rest : List ℕ) → length rest ≡ 0 → s ≡ lastIn line s rest
-  unfolding lastIn
-  last-none [] h = refl
-  last-none (b ∷ bs) h = absurd (omega arith)
-
-  pub last-some : (rest : List ℕ) → (length rest ≡ 0 → ⊥) → line s (record { text = rest; ended = false }) ≡ lastIn line s rest
-  unfolding lastIn
-  last-some [] h = absurd (h refl)
-  last-some (b ∷ bs) h = refl

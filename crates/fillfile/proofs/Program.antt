@@ -30,15 +30,18 @@ use Rattle.memory.proofs.FillerRows.{memory-coded}
 use Rattle.memory.proofs.Pieces.{last-cut}
 use Rattle.memory.proofs.FillStream.{Fitted, fitted-end, end-values, cut-line, fill-limited, fill-stream-is-text}
 use Rattle.memory.proofs.FillLength.{fill-text-short}
+use Rattle.pieces.specs.Block.{LinesTaken}
+use Rattle.pieces.specs.Calls.{joined}
+use Rattle.pieces.proofs.Feeds.{block-read}
+use Rattle.pieces.proofs.Calls.{calls-read}
 use Rattle.print.specs.declared.Put.{Put}
-use Rattle.print.specs.declared.Put.the-variants.{At}
 use Rattle.print.proofs.Written.{put-text, put-whole}
 use Rattle.print.proofs.Rows.{row-in-numbers}
-use Rattle.fillfile.specs.Ending.{outputRows, filledOr, endedBy, refusedWith, endingOf, Ended, endOf, Finished}
+use Rattle.fillfile.specs.Ending.{outputRows, filledOr, endedBy, refusedWith, endingOf, Ended, endOf}
 use Rattle.fillfile.specs.declared.Progress.{Progress}
 use Rattle.fillfile.specs.declared.block.Taken.{Taken}
-use Rattle.fillfile.specs.Progress.{begun, progressOf, LinesTaken}
-use Rattle.fillfile.proofs.Feeds.{block-read}
+use Rattle.fillfile.specs.Progress.{begun, leftBy}
+use Rattle.fillfile.specs.Statements.{PiecesAreText}
 use Rattle.fillfile.proofs.Texts.{Putting}
 
 -- the rows that are read back from their numbers
@@ -165,20 +168,9 @@ module _ (out scratch : List ℕ) (wide : 4480 ≤ length out) (deep : 640 ≤ l
       ending-text (length words) (endIn (lineTaken p) (bytesIn (lineTaken p) (unfilled words) input)) (fitted-end p input words) many
       ∙ fill-stream-is-text p input words many
 
-  -- `finish` prints what the program's definition says of the bytes that were read
-  pub reads-end :
-      (first input words : List ℕ) (was : Progress) (buffer : List ℕ) → progressOf was words buffer ≡ bytesIn (lineTaken p) (unfilled first) input → 1024 ≤ length first
-      → (stored filled cleared text printed : List ℕ) (r : Put) → Finished was buffer words stored out filled scratch cleared text printed r
-      → Putting text 0 (fillText p input) r printed
-  unfolding endOf
-  reads-end first input words was buffer read many stored filled cleared text printed r finished =
-      let same : endingOf (endOf was words buffer) out scratch .text ≡ fillText p input =
-      ap (λ (v : Piece Gathered). endingOf (endIn (lineTaken p) v) out scratch .text) read ∙ program-text input first many in
-      put-text text 0 same (finished .ended .answer, finished .ended .bytes)
-
   -- a whole input at once: its whole lines, and its last line if that is not ended
   pub whole-input :
-      (input words : List ℕ) → 1024 ≤ length words → (was : Progress) → was ≡ begun → (stored : List ℕ) (taken : Taken) → LinesTaken (was .intake) words input stored taken
+      (input words : List ℕ) → 1024 ≤ length words → (was : Progress) → was ≡ begun → (stored : List ℕ) (taken : Taken) → LinesTaken (lineTaken p) (gathered (was .intake) words) input (gathered (taken .intake) stored) (taken .used)
       → (i : Intake) (ws : List ℕ) → gathered i ws ≡ lastIn (lineTaken p) (gathered (taken .intake) stored) (take (length input - taken .used) (drop (taken .used) input))
       → (filled cleared text printed : List ℕ) (r : Put) → Ended (gathered i ws) out filled scratch cleared text printed r
       → Putting text 0 (fillText p input) r printed
@@ -187,7 +179,7 @@ module _ (out scratch : List ℕ) (wide : 4480 ≤ length out) (deep : 640 ≤ l
       let s : Gathered = gathered (taken .intake) stored in
       let rest = drop (taken .used) input in
       let all : length rest ≤ length input - taken .used = omega (arith, length-drop (taken .used) input) in
-      let begins : LinesTaken untaken words input stored taken = rw e at lines in
+      let begins : LinesTaken (lineTaken p) (gathered untaken words) input s (taken .used) = rw e at lines in
       let read = block-read (lineTaken p) (cut-line p) (gathered untaken words) s input (taken .used) (begins .lines) (begins .rest) in
       let same : gathered i ws ≡ endIn (lineTaken p) (bytesIn (lineTaken p) (unfilled words) input) =
       last
@@ -196,7 +188,13 @@ module _ (out scratch : List ℕ) (wide : 4480 ≤ length out) (deep : 640 ≤ l
       ∙ ap (endIn (lineTaken p)) (sym read) in
       put-text text 0 (ap (λ (g : Gathered). endingOf g out scratch .text) same ∙ program-text input words many) (ended .answer, ended .bytes)
 
--- and where the text has room, it holds all of it
-pub text-whole : (input text printed : List ℕ) (r : Put) → 85797 ≤ length text → Putting text 0 (fillText p input) r printed
-    → (r ≡ At (length (fillText p input))) × (take (length (fillText p input)) printed ≡ fillText p input)
-text-whole input text printed r wide put = put-whole text (fillText p input) (omega (arith, fill-text-short p input)) put
+-- an input in pieces, where there is room for all
+pub pieces-are-text : PiecesAreText
+unfolding leftBy begun unfilled endOf fillLimit room
+pieces-are-text words buffer calls h stored out filled scratch cleared text printed r lent finished =
+    let input = joined calls in
+    let read = calls-read (lineTaken p) (gathered untaken words) buffer calls h in
+    let same = ap (λ (v : Piece Gathered). endingOf (endIn (lineTaken p) v) out scratch .text) read ∙ program-text out scratch (lent .output) (lent .counts) input words (lent .rows) in
+    let put = put-text text 0 same (finished .ended .answer, finished .ended .bytes) in
+    let whole = put-whole text (fillText p input) (omega (arith, fill-text-short p input, lent .bytes)) put in
+    record { answer = whole .0; bytes = whole .1 }

@@ -13,19 +13,20 @@ use Rattle.memory.specs.Filler.{memoryCode, Filling, fillOf}
 use Rattle.memory.specs.Print.{filledText, refusalText}
 use Rattle.memory.specs.Pieces.{endIn}
 use Rattle.memory.specs.FillStream.{Gathered, lineTaken, endTaken, dueWords}
+use Rattle.pieces.specs.Calls.{Left, standsFor}
 use Rattle.filler.specs.declared.Filled.{Filled}
 use Rattle.filler.specs.Answer.{answerOf, placeOf, countOf}
 use Rattle.print.specs.declared.Put.{Put}
 use Rattle.print.specs.Put.{putOf, written, rowIn}
-use Rattle.fillfile.specs.declared.Progress.{Progress}
-use Rattle.fillfile.specs.Progress.{progressOf}
 
 -- the first rows of a slice of output rows
 unfoldable pub outputRows : ℕ → List ℕ → List Row
 outputRows zero ws = []
 outputRows (suc k) ws = outputRows k ws ++ rowIn ws k ∷ []
 
--- the rows that were written, or the refusal; "row k being line k + 3"
+-- the rows that were written, or the refusal; "row k being line k + 3". Free, since document 01 gives these answers to the library alone: where the caller lends
+-- fewer words than 4 for each row, or less output or scratch than 2n + 3T rows and words, the library answers 7, 14 or 15 with place 0, and that answer is printed on
+-- line 3, with output and scratch as they were.
 unfoldable pub filledOr : ℕ → ℕ → ℕ → List ℕ → List ℕ
 filledOr answer place count output = cond (eqb answer 0) (filledText (outputRows count output)) (refusalText answer (raise place 3))
 
@@ -59,11 +60,11 @@ pub record Ended (g : Gathered) (out filled scratch cleared text printed : List 
   pub answer : r ≡ putOf (length text) 0 (endingOf g out scratch .text)
   pub bytes : printed ≡ written text 0 (endingOf g out scratch .text)
 
--- what the lines leave where the input ends, with the kept bytes at the front of a buffer
-unfoldable pub endOf : Progress → List ℕ → List ℕ → Gathered
-endOf was words buffer = endIn (lineTaken p) (progressOf was words buffer)
+-- what the lines leave where the input ends, after what the last call left
+unfoldable pub endOf : Left Gathered → Gathered
+endOf l = endIn (lineTaken p) (standsFor l)
 
 -- The end of input: what is printed, and the lent slices
-pub record Finished (was : Progress) (buffer words stored out filled scratch cleared text printed : List ℕ) (r : Put) : Type 0 where
-  pub rows : stored ≡ endOf was words buffer .words
-  pub ended : Ended (endOf was words buffer) out filled scratch cleared text printed r
+pub record Finished (l : Left Gathered) (stored out filled scratch cleared text printed : List ℕ) (r : Put) : Type 0 where
+  pub rows : stored ≡ endOf l .words
+  pub ended : Ended (endOf l) out filled scratch cleared text printed r

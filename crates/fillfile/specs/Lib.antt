@@ -1,2 +1,4 @@
 pub mod Progress
 pub mod Ending
+pub mod Statements
+pub mod Promises

@@ -12,7 +12,6 @@ ghost use Rattle.memory.specs.Filler.{memoryCode};
 ghost use Rattle.memory.specs.Print.{filledText};
 ghost use Rattle.memory.specs.Pieces.{lastIn};
 ghost use Rattle.memory.specs.FillStream.{gathered, lineTaken, endTaken};
-ghost use Rattle.filler.specs.Answer.{fillingOf};
 ghost use Rattle.print.specs.Put.{putOf, written};
 ghost use Rattle.fillfile.specs.Ending.{outputRows, answerText, Ended};
 
@@ -122,7 +121,7 @@ pub fn finish(
     if intake.answer != 0 {
         return print::refusal(text, 0, intake.answer, intake.line);
     }
-    let end = super::smaller(4 * line::due(intake), words.len());
+    let end = pieces::smaller(4 * line::due(intake), words.len());
     let memory = intake.memory;
     let filled = filler::fill(
         code(memory),

@@ -8,12 +8,13 @@ mod ending;
 mod line;
 
 ghost use mathlib.Core.Path.{_≡_};
-ghost use Prim.Native.Nat.{min};
 ghost use lib.ListN.{length};
 ghost use Rattle.field.specs.Field.{p};
 ghost use Rattle.memory.specs.FillFile.{fillText};
+ghost use Rattle.memory.specs.FillStream.{gathered, lineTaken};
+ghost use Rattle.pieces.specs.Calls.{Advanced};
 ghost use Rattle.print.specs.Put.{putOf, written};
-ghost use Rattle.fillfile.specs.Progress.{begun, Advanced};
+ghost use Rattle.fillfile.specs.Progress.{begun, leftBy};
 ghost use Rattle.fillfile.specs.Ending.{Finished};
 
 // "The filling program takes size and count up to 128": the words that it lends for the rows, the output and the scratch, and the most bytes that it prints.
@@ -25,20 +26,11 @@ pub const SCRATCH: usize = 640;
 
 pub const TEXT: usize = 85797;
 
-// As many bytes of an unfinished line are kept as show that it is too long.
-const KEPT: usize = 81;
-
 // Between two pieces of the input: what its lines left, and how many bytes of the line that is being read stand at the front of the caller's buffer. The caller
 // puts the bytes that follow behind them.
 pub struct Progress {
     pub intake: Intake,
     pub kept: usize,
-}
-
-fn smaller(a: usize, b: usize) -> usize
-    ensures { λ r. ⌜ r ≡ min a b ⌝ }
-{
-    if a < b { a } else { b }
 }
 
 // Before the first byte.
@@ -62,18 +54,18 @@ pub fn start() -> Progress
 // The filled part of the buffer, which begins with the kept bytes: its whole lines are read, and the unfinished line after them is moved to the front, as far as it
 // is kept. The bytes of the buffer behind it are as they were. A part that would end past the buffer ends with it. The rows go into the words.
 pub fn advance(progress: Progress, buf: &mut [u8], filled: usize, words: &mut [u32]) -> Progress
-    ensures { λ r. ⌜ Advanced progress filled (now (buf .entry)) (now (buf .exit)) (now (words .entry)) (now (words .exit)) r ⌝ }
+    ensures { λ r. ⌜ Advanced (lineTaken p) (gathered (progress .intake) (now (words .entry))) filled (now (buf .entry)) (leftBy r (now (words .exit)) (now (buf .exit))) ⌝ }
 {
-    let end = smaller(filled, buf.len());
+    let end = pieces::smaller(filled, buf.len());
     let taken = block::lines_in(progress.intake, &buf[..end], words);
     let used = taken.used;
     let intake = taken.intake;
-    let kept = smaller(end - used, KEPT);
-    block::keep(buf, used, kept);
+    let kept = pieces::keep(buf, used, end);
     Progress { intake, kept }
 }
 
-// The end of input, with the kept bytes at the front of the buffer: what the program prints goes into the text.
+// The end of input, with the kept bytes at the front of the buffer: what the program prints goes into the text. Where the caller lends fewer words than 4 for each
+// row, or less output or scratch than document 01 asks for, the library's 7, 14 or 15 is printed, on line 3; `fill` lends enough of each.
 pub fn finish(
     progress: Progress,
     buf: &[u8],
@@ -82,9 +74,9 @@ pub fn finish(
     scratch: &mut [u32],
     text: &mut [u8],
 ) -> Put
-    ensures { λ r. ⌜ Finished progress (now (buf .entry)) (now (words .entry)) (now (words .exit)) (now (out .entry)) (now (out .exit)) (now (scratch .entry)) (now (scratch .exit)) (now (text .entry)) (now (text .exit)) r ⌝ }
+    ensures { λ r. ⌜ Finished (leftBy progress (now (words .entry)) (now (buf .entry))) (now (words .exit)) (now (out .entry)) (now (out .exit)) (now (scratch .entry)) (now (scratch .exit)) (now (text .entry)) (now (text .exit)) r ⌝ }
 {
-    let end = smaller(progress.kept, buf.len());
+    let end = pieces::smaller(progress.kept, buf.len());
     let intake = ending::last(progress.intake, &buf[..end], words);
     ending::finish(intake, &words[..], out, scratch, text)
 }

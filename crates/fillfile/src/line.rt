@@ -12,7 +12,7 @@ ghost use Rattle.field.specs.Field.{p};
 ghost use Rattle.memory.specs.Names.{opCode};
 ghost use Rattle.memory.specs.Step.{raise};
 ghost use Rattle.memory.specs.FillFile.{parseJob};
-ghost use Rattle.memory.specs.FillStream.{gathered, refuseOn, namesTaken, jobTaken, rowsDue, refuseRow, passRow, storedAt, inputTaken, rowTaken, lineTaken};
+ghost use Rattle.memory.specs.FillStream.{gathered, refuseOn, namesTaken, jobTaken, rowsDue, refuseRow, inputTaken, rowTaken, lineTaken};
 ghost use Rattle.fillfile.specs.Progress.{inputFaultAt, storedWords, givenRow};
 
 // The op of an init row.

@@ -23,15 +23,12 @@ use Rattle.memory.specs.Honest.{Input}
 use Rattle.memory.specs.Filler.{inputsIn, inputNumbers}
 use Rattle.memory.specs.Print.{refusalText}
 use Rattle.memory.specs.FillFile.{fillLimit, fillAllowed, Job, job, noJob, jobOf, jobOfFields, parseJob, InputLine, sound, faulty, inputOfFields, parseInput, inputLineFault, inputsFault, inputOfLine, inputsOfLines, runText, inputsText, jobText, jobLinesText, fillLinesText, fillText}
-use Rattle.memory.specs.Pieces.{bytesIn, endIn}
+use Rattle.memory.specs.Pieces.{cut, bytesIn, endIn}
 use Rattle.memory.specs.FillStream.{Gathered, gathered, refuseOn, moveTo, untaken, namesTaken, jobTaken, rowsDue, refuseRow, passRow, storedAt, inputTaken, rowTaken, openLine, lineTaken, endFault, endTaken, dueWords, gatheredText, unfilled, fillEnd}
-use Rattle.memory.specs.Statements.{FillStreamCut, FillStreamIsText}
+use Rattle.memory.specs.Statements.{FillStreamIsText}
 use Rattle.memory.proofs.ReadRows.{both-pass}
 use Rattle.memory.proofs.FillerRows.{inputs-coded, input-numbers-length}
-use Rattle.memory.proofs.Pieces.{lineWith, cut, cut-reads, cut-names, linesIn, pieces-cut, pieces-are-lines}
-
-pub fill-stream-cut : FillStreamCut
-fill-stream-cut q v xs ys = pieces-cut (lineTaken q) v xs ys
+use Rattle.memory.proofs.Pieces.{lineWith, cut-reads, cut-names, linesIn, pieces-are-lines}
 
 -- A line is read from what is kept of it
 fill-names-fit : length fillNames ≤ longest

@@ -12,15 +12,11 @@ use lib.Seq.{take-all, take-append-le}
 use borrow.Author.Tests.{leb-true, leb-false, lt-leb}
 use Rattle.memory.specs.Bytes.{Line, longest, feed, same, before, linesOf}
 use Rattle.memory.specs.File.{namesFault}
-use Rattle.memory.specs.Pieces.{Piece, piece, byteIn, bytesIn, lastIn, endIn}
+use Rattle.memory.specs.Pieces.{cut, Piece, piece, byteIn, bytesIn, lastIn, endIn}
 
 -- the line of a text
 abbrev pub lineWith : List ℕ → Bool → Line
 lineWith text ended = record { text = text; ended = ended }
-
--- what is kept of a line's text
-unfoldable pub cut : List ℕ → List ℕ
-cut text = take (suc longest) text
 
 take-take-append : (n : ℕ) (xs ys : List ℕ) → take n (take n xs ++ ys) ≡ take n (xs ++ ys)
 take-take-append zero xs ys = refl
@@ -148,14 +144,14 @@ module _ {S : Type 0} (line : S → Line → S) where
 
   -- a byte that is kept, and one that comes after as many as show that the line is too long
   byte-added : (v : Piece S) (b : ℕ) → eqb b feed ≡ false → leb (length (v .pending)) longest ≡ true → byteIn line v b ≡ piece (v .known) (v .pending ++ b ∷ [])
-  unfolding byteIn longest
+  unfolding byteIn cut longest
   byte-added v b e l =
       rw e
       (ap (piece (v .known))
       (take-all 81 (v .pending ++ b ∷ []) (omega (arith, length-append (v .pending) (b ∷ []), leb-true (length (v .pending)) 80 l))))
 
   byte-passed : (v : Piece S) (b : ℕ) → eqb b feed ≡ false → leb (length (v .pending)) longest ≡ false → length (v .pending) ≤ suc longest → byteIn line v b ≡ v
-  unfolding byteIn longest piece
+  unfolding byteIn cut longest piece
   byte-passed v b e l h =
       let full = leb-false (length (v .pending)) 80 l in
       rw e (ap (piece (v .known)) (take-append-le 81 (v .pending) (b ∷ []) full ∙ take-all 81 (v .pending) h))

@@ -7,10 +7,10 @@ use Rattle.memory.proofs.Gates.{gates-by-formula}
 use Rattle.memory.proofs.Factors.{factors-counted, choices-counted, hashes-counted, depths-counted}
 use Rattle.memory.proofs.Demand.{demand-at, demand-three}
 use Rattle.memory.proofs.HonestRows.{honest-rows, refused-not-right}
-use Rattle.memory.proofs.Stream.{stream-cut, stream-is-file}
+use Rattle.memory.proofs.Stream.{stream-is-file}
 use Rattle.memory.proofs.HonestFile.{honest-file-accepted, honest-run-accepted}
 use Rattle.memory.proofs.FilledFile.{filling-accepted}
-use Rattle.memory.proofs.FillStream.{fill-stream-cut, fill-stream-is-text}
+use Rattle.memory.proofs.FillStream.{fill-stream-is-text}
 use Rattle.memory.proofs.FillTested.{tested-rows-late}
 use Rattle.memory.proofs.FillLength.{fill-text-short}
 use Rattle.memory.proofs.Cases.{cases-hold, counted-challenge, ram-products}
@@ -32,12 +32,10 @@ promises = record {
   demandThree = demand-three;
   honestRows = honest-rows;
   refusedNotRight = refused-not-right;
-  streamCut = stream-cut;
   streamIsFile = stream-is-file;
   honestFile = honest-file-accepted;
   honestRun = honest-run-accepted;
   filling = filling-accepted;
-  fillCut = fill-stream-cut;
   fillText = fill-stream-is-text;
   tested = tested-rows-late;
   short = fill-text-short;

@@ -8,8 +8,11 @@ use lib.Dec.{eqb}
 use lib.ListN.{take}
 use Rattle.memory.specs.Bytes.{Line, longest, feed}
 
--- What is known after some bytes: what the whole lines leave, and the bytes of the line that is being read, of which no more are kept than show
--- that it is too long
+-- what is kept of a line's text: no more bytes than show that it is too long
+unfoldable pub cut : List ℕ → List ℕ
+cut text = take (suc longest) text
+
+-- What is known after some bytes: what the whole lines leave, and what is kept of the line that is being read
 pub record Piece (S : Type 0) : Type 0 where
   pub known : S
   pub pending : List ℕ
@@ -21,7 +24,7 @@ piece s bytes = record { known = s; pending = bytes }
 unfoldable pub byteIn : {S : Type 0} → (S → Line → S) → Piece S → ℕ → Piece S
 byteIn line v b =
     cond (eqb b feed) (piece (line (v .known) (record { text = v .pending; ended = true })) [])
-    (piece (v .known) (take (suc longest) (v .pending ++ b ∷ [])))
+    (piece (v .known) (cut (v .pending ++ b ∷ [])))
 
 unfoldable pub bytesIn : {S : Type 0} → (S → Line → S) → Piece S → List ℕ → Piece S
 bytesIn line v [] = v

@@ -1,6 +1,6 @@
 -- Every statement of this crate, as the fields of one record: a proof of it is a proof of each. (Promises: promises)
 -- Assumes nothing.
-use Rattle.memory.specs.Statements.{FoldIsFile, RunIsFile, FaultByForm, FixedState, EndedState, AcceptsExactlyWhen, GatesByFormula, FactorsCounted, ChoicesCounted, HashesCounted, DepthsCounted, DemandAt, DemandThree, HonestRows, RefusedNotRight, StreamCut, StreamIsFile, HonestFileAccepted, HonestRunAccepted, FillingAccepted, FillStreamCut, FillStreamIsText, TestedRowsLate, FillTextShort}
+use Rattle.memory.specs.Statements.{FoldIsFile, RunIsFile, FaultByForm, FixedState, EndedState, AcceptsExactlyWhen, GatesByFormula, FactorsCounted, ChoicesCounted, HashesCounted, DepthsCounted, DemandAt, DemandThree, HonestRows, RefusedNotRight, StreamIsFile, HonestFileAccepted, HonestRunAccepted, FillingAccepted, FillStreamIsText, TestedRowsLate, FillTextShort}
 use Rattle.memory.specs.Cases.{CasesHold, CountedChallenge, RamProducts}
 
 pub record Promises : Type 0 where
@@ -19,12 +19,10 @@ pub record Promises : Type 0 where
   pub demandThree : DemandThree
   pub honestRows : HonestRows
   pub refusedNotRight : RefusedNotRight
-  pub streamCut : StreamCut
   pub streamIsFile : StreamIsFile
   pub honestFile : HonestFileAccepted
   pub honestRun : HonestRunAccepted
   pub filling : FillingAccepted
-  pub fillCut : FillStreamCut
   pub fillText : FillStreamIsText
   pub tested : TestedRowsLate
   pub short : FillTextShort

@@ -27,9 +27,9 @@ use Rattle.memory.specs.Step.{takesRows, stepOf, endOf, stepsOf, runOf, 
 use Rattle.memory.specs.Filler.{rowsFault}
 use Rattle.memory.specs.Print.{rowsText, refusalText, filledText, headerText}
 use Rattle.memory.specs.FillFile.{job, parseJob, parseInput, inputsOfLines, fillLimit, inputsFault, fillText}
-use Rattle.memory.specs.Pieces.{Piece, bytesIn}
-use Rattle.memory.specs.FillStream.{Gathered, lineTaken, unfilled, fillEnd, late}
-use Rattle.memory.specs.Stream.{Reading, unread, bytesOf, finishOf}
+use Rattle.memory.specs.Pieces.{bytesIn}
+use Rattle.memory.specs.FillStream.{lineTaken, unfilled, fillEnd, late}
+use Rattle.memory.specs.Stream.{lineOf, unread, finishOf}
 use Rattle.memory.specs.Bound.{elements, accepts, challenges, malformed, degree, rowsIn, traceIn, Advised}
 
 -- "Rows then come one call at a time, refused ones included, and last the end of file": the value line's fresh state, advanced by any list of what lines can
@@ -158,13 +158,9 @@ RefusedNotRight =
     (rowsFault q m (map (λ row. row .value) (initRows n rows)) 1 (initInputs n rows) (operationInputs n t rows) .number ≡ 0 → ⊥)
     → right (traceOf m n t rows) ≡ false
 
--- A file read in pieces, cut anywhere, gives what reading it whole gives. (Stream: stream-cut)
-abbrev pub StreamCut : Type 0
-StreamCut = (q : ℕ) (v : Reading) (xs ys : List ℕ) → bytesOf q v (xs ++ ys) ≡ bytesOf q (bytesOf q v xs) ys
-
 -- A file read byte by byte, up to its end, gives what `check` prints for it. (Stream: stream-is-file)
 abbrev pub StreamIsFile : Type 0
-StreamIsFile = (q : ℕ) (bytes : List ℕ) → 2 ≤ q → finishOf q (bytesOf q unread bytes) ≡ fileReport q bytes
+StreamIsFile = (q : ℕ) (bytes : List ℕ) → 2 ≤ q → finishOf q (bytesIn (lineOf q) unread bytes) ≡ fileReport q bytes
 
 -- What the filler writes is accepted. Init rows and operations that it fills: size and count are allowed, there are as many, and it refuses none of them
 pub record Fillable (m : Memory) (n t : ℕ) (inits ops : List Input) : Type 0 where
@@ -227,11 +223,6 @@ pub record FillAccepted (bytes : List ℕ) : Type 0 where
 -- (FilledFile: filling-accepted)
 abbrev pub FillingAccepted : Type 0
 FillingAccepted = (bytes : List ℕ) → FillRefused bytes ⊎ FillAccepted bytes
-
--- The filling program's input read in pieces, cut anywhere, gives what reading it whole gives. (FillStream: fill-stream-cut)
-abbrev pub FillStreamCut : Type 0
-FillStreamCut =
-    (q : ℕ) (v : Piece Gathered) (xs ys : List ℕ) → bytesIn (lineTaken q) v (xs ++ ys) ≡ bytesIn (lineTaken q) (bytesIn (lineTaken q) v xs) ys
 
 -- The filling program's input read byte by byte, up to its end, with words for as many rows as may be due, gives what the program prints. (FillStream: fill-stream-is-text)
 abbrev pub FillStreamIsText : Type 0

@@ -105,6 +105,13 @@ pub struct Report {
     pub mults: u32,
 }
 
+// What the lines of a checked file leave.
+pub struct Stand {
+    // the number of the next line, 4 for all rows
+    pub place: u32,
+    pub state: State,
+}
+
 // What the lines of the filling program's input leave.
 pub struct Intake {
     // the number of the next line, 4 for all rows

@@ -1,4 +1,3 @@
-pub mod Parts
-pub mod Feeds
-pub mod Piece
+pub mod File
 pub mod Places
+pub mod Promises

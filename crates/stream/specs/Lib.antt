@@ -1,1 +1,3 @@
 pub mod Progress
+pub mod Statements
+pub mod Promises

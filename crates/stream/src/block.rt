@@ -1,61 +1,26 @@
-// The lines that lie whole in a block, and the move of an unfinished line to the front of a buffer.
+// The lines that lie whole in a block.
 use super::line;
-use memory::State;
-ghost use mathlib.Core.Path.{_≡_};
-ghost use mathlib.Core.List.{_++_};
-ghost use Prim.Native.Nat.{_+_, _≤_};
-ghost use lib.ListN.{length, take, drop};
-ghost use Rattle.stream.specs.Progress.{untilFeed, LinesTaken};
-
-// The byte that ends a line.
-const FEED: u8 = 10;
+use memory::Stand;
+ghost use Rattle.field.specs.Field.{p};
+ghost use Rattle.memory.specs.Stream.{lineOf};
+ghost use Rattle.pieces.specs.Block.{LinesTaken};
 
 // Between two lines of a block, of which some bytes are used.
 pub struct Taken {
-    pub place: u32,
-    pub state: State,
+    pub stand: Stand,
     pub used: usize,
 }
 
-// The position of the first line feed from a position on, or the length where there is none.
-fn feed_from(block: &[u8], from: usize) -> usize
-    requires { ⌜ from ≤ length (now block) ⌝ }
-    ensures { λ r. ⌜ r ≡ from + untilFeed (drop from (now (block .entry))) ⌝ }
-{
-    let mut i = from;
-    while i < block.len() {
-        if block[i] == FEED {
-            return i;
-        }
-        i += 1;
-    }
-    i
-}
-
 // Every whole line of a block, each as a part of the block.
-pub fn lines_in(mut place: u32, mut state: State, block: &[u8]) -> Taken
-    ensures { λ r. ⌜ LinesTaken place state (now (block .entry)) r ⌝ }
+pub fn lines_in(mut stand: Stand, block: &[u8]) -> Taken
+    ensures { λ r. ⌜ LinesTaken (lineOf p) stand (now (block .entry)) (r .stand) (r .used) ⌝ }
 {
     let mut used = 0;
-    let mut at = feed_from(block, used);
+    let mut at = pieces::feed_from(block, used);
     while at < block.len() {
-        let next = line::line(place, state, &block[used..at], true);
-        place = next.place;
-        state = next.state;
+        stand = line::line(stand, &block[used..at], true);
         used = at + 1;
-        at = feed_from(block, used);
+        at = pieces::feed_from(block, used);
     }
-    Taken { place, state, used }
-}
-
-// Moves a part of a buffer to its front; what stands behind it there stays.
-pub fn keep(buf: &mut [u8], from: usize, count: usize)
-    requires { ⌜ from + count ≤ length (now buf) ⌝ }
-    ensures { λ r. ⌜ now (buf .exit) ≡ take count (drop from (now (buf .entry))) ++ drop count (now (buf .entry)) ⌝ }
-{
-    let mut i = 0;
-    while i < count {
-        buf[i] = buf[from + i];
-        i += 1;
-    }
+    Taken { stand, used }
 }

@@ -1,16 +1,18 @@
 // The end of input: the last line where it is not ended, and what is printed.
 use super::line;
 use memory::Report;
-use memory::State;
+use memory::Stand;
 ghost use mathlib.Core.Path.{_≡_};
-ghost use mathlib.Core.List.{[]};
 ghost use Rattle.field.specs.Field.{p};
-ghost use Rattle.memory.specs.Stream.{reading, endReport, finishOf};
+ghost use Rattle.memory.specs.Pieces.{piece};
+ghost use Rattle.memory.specs.Stream.{endReport, finishOf};
 
 // Where the lines end: 1 for an empty file, 7 for a missing line 2 or 3.
-fn ended(place: u32, state: State) -> Report
-    ensures { λ r. ⌜ r ≡ endReport (reading place state []) ⌝ }
+fn ended(stand: Stand) -> Report
+    ensures { λ r. ⌜ r ≡ endReport stand ⌝ }
 {
+    let place = stand.place;
+    let state = stand.state;
     match place {
         1 => checker::report(line::refused(1, 1)),
         2 => checker::report(line::refused(7, 2)),
@@ -26,12 +28,11 @@ fn ended(place: u32, state: State) -> Report
 }
 
 // What is printed where the input ends after some bytes of a line: a line without its line feed is a line all the same.
-pub fn report(place: u32, state: State, rest: &[u8]) -> Report
-    ensures { λ r. ⌜ r ≡ finishOf p (reading place state (now (rest .entry))) ⌝ }
+pub fn report(stand: Stand, rest: &[u8]) -> Report
+    ensures { λ r. ⌜ r ≡ finishOf p (piece stand (now (rest .entry))) ⌝ }
 {
     if rest.len() == 0 {
-        return ended(place, state);
+        return ended(stand);
     }
-    let last = line::line(place, state, rest, false);
-    ended(last.place, last.state)
+    ended(line::line(stand, rest, false))
 }

@@ -4,21 +4,14 @@ use memory::Challenge;
 use memory::Context;
 use memory::Memory;
 use memory::Products;
+use memory::Stand;
 use memory::State;
 ghost use mathlib.Core.Path.{_≡_};
-ghost use mathlib.Core.List.{[]};
 ghost use Prim.Native.Nat.{_<_};
 ghost use Rattle.field.specs.Field.{p};
 ghost use Rattle.memory.specs.File.{parseValues};
 ghost use Rattle.memory.specs.Step.{takesRows, refusedState, openedOf};
-ghost use Rattle.memory.specs.Stream.{reading, rowNamesRead, lineOf};
-ghost use Rattle.stream.specs.Progress.{standing, namedOf};
-
-// Between two lines: the number of the next line, 4 for all rows, and the checker's state.
-pub struct Stand {
-    pub place: u32,
-    pub state: State,
-}
+ghost use Rattle.memory.specs.Stream.{namesRead, rowNamesRead, lineOf};
 
 // A state that has refused a line before the rows.
 pub fn refused(answer: u32, line: u32) -> State
@@ -67,7 +60,7 @@ pub fn takes_rows(state: State) -> bool
 // A names line by its fault, or 0: the next line follows, or the file is refused on this one.
 fn named(place: u32, state: State, fault: u32) -> Stand
     requires { ⌜ place < 4 ⌝ }
-    ensures { λ r. ⌜ standing r ≡ namedOf place state fault ⌝ }
+    ensures { λ r. ⌜ r ≡ namesRead place state fault ⌝ }
 {
     if fault == 0 {
         return Stand {
@@ -98,7 +91,7 @@ fn opened(text: &[u8], ended: bool) -> State
 
 // Line 3: where the value line was refused, the file keeps that answer.
 fn row_names(state: State, text: &[u8], ended: bool) -> Stand
-    ensures { λ r. ⌜ standing r ≡ rowNamesRead state (record { text = now (text .entry); ended = ended }) ⌝ }
+    ensures { λ r. ⌜ r ≡ rowNamesRead state (record { text = now (text .entry); ended = ended }) ⌝ }
 {
     if !takes_rows(state) {
         return Stand { place: 4, state };
@@ -107,9 +100,11 @@ fn row_names(state: State, text: &[u8], ended: bool) -> Stand
 }
 
 // Any line.
-pub fn line(place: u32, state: State, text: &[u8], ended: bool) -> Stand
-    ensures { λ r. ⌜ standing r ≡ lineOf p (reading place state []) (record { text = now (text .entry); ended = ended }) ⌝ }
+pub fn line(stand: Stand, text: &[u8], ended: bool) -> Stand
+    ensures { λ r. ⌜ r ≡ lineOf p stand (record { text = now (text .entry); ended = ended }) ⌝ }
 {
+    let place = stand.place;
+    let state = stand.state;
     match place {
         1 => named(1, state, lines::value_names_line(text, ended)),
         2 => Stand {

@@ -2,8 +2,11 @@
 -- Assumes nothing.
 use native.Mathlib.Omega.{arith}
 use lib.ListN.{length-take}
-use Rattle.memory.specs.Bytes.{longest}
-use Rattle.fillfile.proofs.Piece.{advanced}
+use Rattle.field.specs.Field.{p}
+use Rattle.memory.specs.FillStream.{gathered, lineTaken}
+use Rattle.memory.proofs.FillStream.{cut-line}
+use Rattle.pieces.proofs.Calls.{advanced}
+use Rattle.fillfile.specs.Progress.{leftBy}
 use borrow.Author.Needs.{needs}
 use Rattle.fillfile.proofs.advance.Statement.{statement}
 use Rattle.fillfile.proofs.advance.Tie as tie
@@ -21,19 +24,8 @@ slice-aggregate-lines-in c =
 lines-in-requires : tie.Need-lines-in-requires
 lines-in-requires c κs = search needs
 
-sub-smaller : tie.Need-sub-smaller
-sub-smaller c =
-    let end = c .before .before .before .before .before .before .smaller .result in
-    let buffer = c .before .before .before .before .before .before .before .before .before .args .buf .now in
-    omega (arith, c .before .before .before .lines-in .ensures .within, length-take end buffer)
-
-smaller-requires-2 : tie.Need-smaller-requires-2
-smaller-requires-2 c κs = search needs
-
 keep-requires : tie.Need-keep-requires
-keep-requires c κs =
-    let start = c .before .before .before .before .before .before .before .before .before .before .before in
-    omega (arith, c .before .before .before .before .before .lines-in .ensures .within, length-take (c .before .before .before .before .before .before .before .before .smaller .result) (start .args .buf .now))
+keep-requires c κs = search needs
 
 same-length : tie.Need-same-length
 same-length c = search needs
@@ -42,13 +34,14 @@ same-length-2 : tie.Need-same-length-2
 same-length-2 c = search needs
 
 returns : tie.Need-returns
-unfolding longest
+unfolding leftBy
 returns c =
-    let taken = c .before .before .before .before .before .before .before .before .lines-in in
-    let end = c .before .before .before .before .before .before .before .before .before .before .before .smaller in
-    let a = c .before .before .before .before .before .before .before .before .before .before .before .before .before .before .args in
-    advanced (a .progress) (a .filled) (a .buf .now) (a .words .now) (end .result) (end .ensures) (taken .last .1 .1 .0) (taken .result) (taken .ensures)
-    (c .before .before .before .before .smaller2 .result) (c .before .before .before .before .smaller2 .ensures) (c .before .before .keep .last .0) (c .before .before .keep .ensures)
+    let taken = c .before .before .before .before .before .before .before .lines-in in
+    let end = c .before .before .before .before .before .before .before .before .before .before .smaller in
+    let a = c .before .before .before .before .before .before .before .before .before .before .before .before .before .args in
+    let keep = c .before .before .keep in
+    advanced (lineTaken p) (cut-line p) (gathered (a .progress .intake) (a .words .now)) (a .filled) (a .buf .now) (end .result) (end .ensures)
+    (gathered (taken .result .intake) (taken .last .1 .1 .0)) (taken .result .used) (taken .ensures) (keep .result) (keep .ensures .0) (keep .last .0) (keep .ensures .1)
 
 pub advance-spec : {M : Type 1} → statement M
 advance-spec =
@@ -58,8 +51,6 @@ advance-spec =
     slice-reshare-prefix-lines-in
     slice-aggregate-lines-in
     lines-in-requires
-    sub-smaller
-    smaller-requires-2
     keep-requires
     same-length
     same-length-2

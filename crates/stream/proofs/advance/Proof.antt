@@ -2,8 +2,11 @@
 -- Assumes nothing.
 use native.Mathlib.Omega.{arith}
 use lib.ListN.{length-take}
-use Rattle.memory.specs.Bytes.{longest}
-use Rattle.stream.proofs.Piece.{advanced}
+use Rattle.field.specs.Field.{p}
+use Rattle.memory.specs.Stream.{lineOf}
+use Rattle.memory.proofs.Stream.{cut-line}
+use Rattle.pieces.proofs.Calls.{advanced}
+use Rattle.stream.specs.Progress.{leftBy}
 use borrow.Author.Needs.{needs}
 use Rattle.stream.proofs.advance.Statement.{statement}
 use Rattle.stream.proofs.advance.Tie as tie
@@ -21,32 +24,21 @@ slice-aggregate-lines-in c =
 lines-in-requires : tie.Need-lines-in-requires
 lines-in-requires c κs = search needs
 
-sub-smaller : tie.Need-sub-smaller
-sub-smaller c =
-    let end = c .before .before .before .smaller .result in
-    let buffer = c .before .before .before .before .before .args .buf .now in
-    omega (arith, c .before .lines-in .ensures .within, length-take end buffer)
-
-smaller-requires-2 : tie.Need-smaller-requires-2
-smaller-requires-2 c κs = search needs
-
 keep-requires : tie.Need-keep-requires
-keep-requires c κs =
-    let start = c .before .before .before .before .before .before .before in
-    omega (arith, c .before .before .before .lines-in .ensures .within, length-take (c .before .before .before .before .before .smaller .result) (start .args .buf .now))
+keep-requires c κs = search needs
 
 same-length : tie.Need-same-length
 same-length c = search needs
 
 returns : tie.Need-returns
-unfolding longest
+unfolding leftBy
 returns c =
-    let before-keep = c .before .before .before .before in
-    let taken = before-keep .before .before .lines-in in
-    let end = before-keep .before .before .before .before .smaller in
-    let a = before-keep .before .before .before .before .before .before .args in
-    advanced (a .progress) (a .filled) (a .buf .now) (end .result) (end .ensures) (taken .result) (taken .ensures) (before-keep .smaller2 .result)
-    (before-keep .smaller2 .ensures) (c .before .before .keep .last .0) (c .before .before .keep .ensures)
+    let taken = c .before .before .before .before .before .lines-in in
+    let end = c .before .before .before .before .before .before .before .smaller in
+    let a = c .before .before .before .before .before .before .before .before .before .args in
+    let keep = c .before .before .keep in
+    advanced (lineOf p) (cut-line p) (a .progress .stand) (a .filled) (a .buf .now) (end .result) (end .ensures) (taken .result .stand) (taken .result .used)
+    (taken .ensures) (keep .result) (keep .ensures .0) (keep .last .0) (keep .ensures .1)
 
 pub advance-spec : {M : Type 1} → statement M
 advance-spec =
@@ -56,8 +48,6 @@ advance-spec =
     slice-reshare-prefix-lines-in
     slice-aggregate-lines-in
     lines-in-requires
-    sub-smaller
-    smaller-requires-2
     keep-requires
     same-length
     returns)

@@ -7,8 +7,9 @@ use mathlib.Core.List.{List}
 use lib.ListN.{length, drop, length-drop}
 use lib.Seq.{take-all}
 use Rattle.field.specs.Field.{p}
-use Rattle.memory.specs.Stream.{reading, finishOf}
-use Rattle.stream.proofs.Piece.{whole-file}
+use Rattle.memory.specs.Pieces.{piece}
+use Rattle.memory.specs.Stream.{finishOf}
+use Rattle.stream.proofs.File.{whole-file}
 use borrow.Author.Needs.{needs}
 use Rattle.stream.proofs.check_file.Statement.{statement}
 use Rattle.stream.proofs.check_file.Tie as tie
@@ -39,8 +40,8 @@ returns c =
     let used = taken .result .used in
     let all : length (drop used file) ≤ length file - used = omega (arith, length-drop used file) in
     c .report .ensures
-    ∙ ap (λ (t : List ℕ). finishOf p (reading (taken .result .place) (taken .result .state) t)) (take-all (length file - used) (drop used file) all)
-    ∙ whole-file file (start .result) (start .ensures) (taken .result) (taken .ensures)
+    ∙ ap (λ (t : List ℕ). finishOf p (piece (taken .result .stand) t)) (take-all (length file - used) (drop used file) all)
+    ∙ whole-file file (start .result) (start .ensures) (taken .result .stand) used (taken .ensures)
 
 pub check-file-spec : {M : Type 1} → statement M
 check-file-spec =

@@ -6,9 +6,11 @@ use mathlib.Core.Path.{_∙_, ap}
 use mathlib.Core.List.{List}
 use lib.ListN.{take, length-take}
 use Rattle.field.specs.Field.{p}
-use Rattle.memory.specs.Stream.{reading, finishOf}
-use Rattle.stream.specs.Progress.{progressOf}
-use Rattle.stream.proofs.Parts.{take-within}
+use Rattle.memory.specs.Pieces.{piece}
+use Rattle.memory.specs.Stream.{finishOf}
+use Rattle.pieces.specs.Calls.{standsFor}
+use Rattle.pieces.proofs.Parts.{take-within}
+use Rattle.stream.specs.Progress.{leftBy}
 use borrow.Author.Needs.{needs}
 use Rattle.stream.proofs.finish.Statement.{statement}
 use Rattle.stream.proofs.finish.Tie as tie
@@ -24,12 +26,12 @@ report-requires : tie.Need-report-requires
 report-requires c κs = search needs
 
 returns : tie.Need-returns
-unfolding progressOf
+unfolding standsFor leftBy
 returns c =
     let a = c .before .before .before .before .args in
     c .report .ensures
-    ∙ ap (λ (n : ℕ). finishOf p (reading (a .progress .place) (a .progress .state) (take n (a .buf .now)))) (c .before .before .smaller .ensures)
-    ∙ ap (λ (t : List ℕ). finishOf p (reading (a .progress .place) (a .progress .state) t)) (take-within (a .progress .kept) (a .buf .now))
+    ∙ ap (λ (n : ℕ). finishOf p (piece (a .progress .stand) (take n (a .buf .now)))) (c .before .before .smaller .ensures)
+    ∙ ap (λ (t : List ℕ). finishOf p (piece (a .progress .stand) t)) (take-within (a .progress .kept) (a .buf .now))
 
 pub finish-spec : {M : Type 1} → statement M
 finish-spec = tie.close (tie.spec smaller-requires slice-aggregate-report report-requires returns)

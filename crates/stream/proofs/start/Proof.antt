@@ -1,6 +1,7 @@
 -- `stream::start` meets its contract.
 -- Assumes nothing.
 use borrow.Author.Needs.{needs}
+use Rattle.memory.specs.Stream.{stand, unopened}
 use Rattle.stream.specs.Progress.{begun}
 use Rattle.stream.proofs.start.Statement.{statement}
 use Rattle.stream.proofs.start.Tie as tie
@@ -9,7 +10,7 @@ refused-requires : tie.Need-refused-requires
 refused-requires c κs = search needs
 
 returns : tie.Need-returns
-unfolding begun
+unfolding begun unopened stand
 returns c = simp (c .refused .ensures)
 
 pub start-spec : {M : Type 1} → statement M

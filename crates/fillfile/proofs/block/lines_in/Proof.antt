@@ -9,8 +9,8 @@ use Rattle.field.specs.Field.{p}
 use Rattle.memory.specs.Pieces.{piece, bytesIn}
 use Rattle.memory.specs.FillStream.{gathered, lineTaken}
 use Rattle.memory.proofs.FillStream.{cut-line}
-use Rattle.fillfile.specs.Progress.{untilFeed}
-use Rattle.fillfile.proofs.Feeds.{feed-within, lines-more}
+use Rattle.pieces.specs.Block.{untilFeed}
+use Rattle.pieces.proofs.Feeds.{feed-within, lines-more}
 use Rattle.fillfile.proofs.block.lines_in.Statement.{statement}
 use Rattle.fillfile.proofs.block.lines_in.Tie as tie
 
@@ -23,7 +23,7 @@ abbrev μ-loop : tie.MeasureT-loop
 μ-loop intake₀ block words₀ used₀ at₀ intake words used at = length block - used
 
 feed-from-requires : tie.Need-feed-from-requires Inv-loop μ-loop
-feed-from-requires c κs = omega arith
+feed-from-requires c κs = tt
 
 loop-holds : tie.Need-loop-holds Inv-loop μ-loop
 unfolding bytesIn
@@ -45,7 +45,7 @@ add-used : tie.Need-add-used Inv-loop μ-loop
 add-used c = omega arith
 
 feed-from-requires-2 : tie.Need-feed-from-requires-2 Inv-loop μ-loop
-feed-from-requires-2 c κs = omega arith
+feed-from-requires-2 c κs = tt
 
 loop-less : tie.Need-loop-less Inv-loop μ-loop
 loop-less c = omega arith

@@ -3,7 +3,7 @@
 use mathlib.Core.Path.{_∙_}
 use Rattle.field.specs.Field.{p}
 use Rattle.memory.specs.FillStream.{lineTaken}
-use Rattle.fillfile.proofs.Places.{last-none, last-some}
+use Rattle.pieces.proofs.Calls.{last-none, last-some}
 use borrow.Author.Needs.{needs}
 use Rattle.fillfile.proofs.ending.last.Statement.{statement}
 use Rattle.fillfile.proofs.ending.last.Tie as tie

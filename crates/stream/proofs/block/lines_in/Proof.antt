@@ -6,26 +6,27 @@ use mathlib.Core.Path.{_≡_, refl}
 use mathlib.Core.List.{[]}
 use lib.ListN.{length, take, drop, length-drop}
 use Rattle.field.specs.Field.{p}
-use Rattle.memory.specs.Stream.{reading, bytesOf}
-use Rattle.stream.specs.Progress.{standing, untilFeed}
-use Rattle.stream.proofs.Feeds.{feed-within, lines-more}
+use Rattle.memory.specs.Pieces.{piece, bytesIn}
+use Rattle.memory.specs.Stream.{lineOf}
+use Rattle.memory.proofs.Stream.{cut-line}
+use Rattle.pieces.specs.Block.{untilFeed}
+use Rattle.pieces.proofs.Feeds.{feed-within, lines-more}
 use Rattle.stream.proofs.block.lines_in.Statement.{statement}
 use Rattle.stream.proofs.block.lines_in.Tie as tie
 
 abbrev Inv-loop : tie.InvT-loop
-Inv-loop place₀ state₀ block used₀ at₀ place state used at =
-    (used ≤ length block)
-    × ((bytesOf p (reading place₀ state₀ []) (take used block) ≡ reading place state []) × (at ≡ used + untilFeed (drop used block)))
+Inv-loop stand₀ block used₀ at₀ stand used at =
+    (used ≤ length block) × (bytesIn (lineOf p) (piece stand₀ []) (take used block) ≡ piece stand []) × (at ≡ used + untilFeed (drop used block))
 
 abbrev μ-loop : tie.MeasureT-loop
-μ-loop place₀ state₀ block used₀ at₀ place state used at = length block - used
+μ-loop stand₀ block used₀ at₀ stand used at = length block - used
 
 feed-from-requires : tie.Need-feed-from-requires Inv-loop μ-loop
-feed-from-requires c κs = omega arith
+feed-from-requires c κs = tt
 
 loop-holds : tie.Need-loop-holds Inv-loop μ-loop
-unfolding bytesOf
-loop-holds c = (omega arith, (refl, c .feed-from .ensures))
+unfolding bytesIn
+loop-holds c = (omega arith, refl, c .feed-from .ensures)
 
 sub-line : tie.Need-sub-line Inv-loop μ-loop
 sub-line c = omega arith
@@ -43,27 +44,26 @@ add-used : tie.Need-add-used Inv-loop μ-loop
 add-used c = omega arith
 
 feed-from-requires-2 : tie.Need-feed-from-requires-2 Inv-loop μ-loop
-feed-from-requires-2 c κs = omega arith
+feed-from-requires-2 c κs = tt
 
 loop-less : tie.Need-loop-less Inv-loop μ-loop
 loop-less c = omega arith
 
 loop-again : tie.Need-loop-again Inv-loop μ-loop
-unfolding standing
 loop-again c =
-    let turn = c .before .before .before .before in
+    let turn = c .before .before .before in
     let l = turn .before .loop in
     let a = turn .before .before .before .before .args in
-    let next = c .before .before .line in
-    let more = lines-more p (a .place) (a .state) (l .place) (l .state) (standing (next .result)) (a .block .now) (l .used) (l .at) in
-    (omega arith, (more (l .inv .1 .0) (l .inv .1 .1) (turn .loop-test .taken) (next .ensures), c .feed-from2 .ensures))
+    let next = c .before .line in
+    let more = lines-more (lineOf p) (cut-line p) (a .stand) (l .stand) (next .result) (a .block .now) (l .used) (l .at) in
+    (omega arith, more (l .inv .1) (l .inv .2) (turn .loop-test .taken) (next .ensures), c .feed-from2 .ensures)
 
 returns : tie.Need-returns Inv-loop μ-loop
 returns c =
     let l = c .before .loop in
     let block = c .before .before .before .before .args .block .now in
     let rest = drop (l .used) block in
-    record { within = l .inv .0; lines = l .inv .1 .0; rest = omega (arith, feed-within rest, length-drop (l .used) block) }
+    record { within = l .inv .0; lines = l .inv .1; rest = omega (arith, feed-within rest, length-drop (l .used) block) }
 
 pub lines-in-spec : {M : Type 1} → statement M
 lines-in-spec =

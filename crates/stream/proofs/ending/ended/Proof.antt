@@ -38,26 +38,26 @@ report-requires-5 : tie.Need-report-requires-5
 report-requires-5 c κs = search needs
 
 returns : tie.Need-returns
-returns c = c .report .ensures ∙ ap reportOf (c .before .refused .ensures) ∙ sym (end-one _ _ (c .before .before .match .keys1))
+returns c = c .report .ensures ∙ ap reportOf (c .before .refused .ensures) ∙ sym (end-one _ (c .before .before .match .keys1))
 
 returns-2 : tie.Need-returns-2
-returns-2 c = c .report2 .ensures ∙ ap reportOf (c .before .refused2 .ensures) ∙ sym (end-two _ _ (c .before .before .match .keys2))
+returns-2 c = c .report2 .ensures ∙ ap reportOf (c .before .refused2 .ensures) ∙ sym (end-two _ (c .before .before .match .keys2))
 
 returns-3 : tie.Need-returns-3
 returns-3 c =
     let takes = c .before .before .before .takes-rows in
     c .report3 .ensures ∙ ap reportOf (c .before .refused3 .ensures)
-    ∙ sym (end-three-due _ _ (c .before .before .before .before .match .keys3) (sym (takes .ensures) ∙ c .before .before .if1 .taken))
+    ∙ sym (end-three-due _ (c .before .before .before .before .match .keys3) (sym (takes .ensures) ∙ c .before .before .if1 .taken))
 
 returns-4 : tie.Need-returns-4
 returns-4 c =
     let takes = c .before .before .takes-rows in
-    c .report4 .ensures ∙ sym (end-three-refused _ _ (c .before .before .before .match .keys3) (sym (takes .ensures) ∙ c .before .if1 .left))
+    c .report4 .ensures ∙ sym (end-three-refused _ (c .before .before .before .match .keys3) (sym (takes .ensures) ∙ c .before .if1 .left))
 
 returns-5 : tie.Need-returns-5
 returns-5 c =
     let none = c .before .before .match .rest in
-    c .report5 .ensures ∙ ap reportOf (c .before .end .ensures) ∙ sym (end-rows _ _ (none .0 .0 .1) (none .0 .1) (none .1))
+    c .report5 .ensures ∙ ap reportOf (c .before .end .ensures) ∙ sym (end-rows _ (none .0 .0 .1) (none .0 .1) (none .1))
 
 pub ended-spec : {M : Type 1} → statement M
 ended-spec =

@@ -3,7 +3,6 @@
 use mathlib.Core.Path.{sym, _∙_, ap}
 use Rattle.field.specs.Field.{p}
 use Rattle.memory.specs.Stream.{endReport}
-use Rattle.stream.specs.Progress.{standing}
 use Rattle.stream.proofs.Places.{finish-none, finish-line}
 use borrow.Author.Needs.{needs}
 use Rattle.stream.proofs.ending.report.Statement.{statement}
@@ -13,7 +12,7 @@ ended-requires : tie.Need-ended-requires
 ended-requires c κs = search needs
 
 returns : tie.Need-returns
-returns c = c .ended .ensures ∙ sym (finish-none p _ _ _ (c .before .if1 .taken))
+returns c = c .ended .ensures ∙ sym (finish-none p _ _ (c .before .if1 .taken))
 
 line-requires : tie.Need-line-requires
 line-requires c κs = search needs
@@ -22,8 +21,7 @@ ended-requires-2 : tie.Need-ended-requires-2
 ended-requires-2 c κs = search needs
 
 returns-2 : tie.Need-returns-2
-unfolding standing
-returns-2 c = c .ended2 .ensures ∙ ap endReport (c .before .line .ensures) ∙ sym (finish-line p _ _ _ (c .before .before .if1 .left))
+returns-2 c = c .ended2 .ensures ∙ ap endReport (c .before .line .ensures) ∙ sym (finish-line p _ _ (c .before .before .if1 .left))
 
 pub report-spec : {M : Type 1} → statement M
 report-spec = tie.close (tie.spec ended-requires returns line-requires ended-requires-2 returns-2)

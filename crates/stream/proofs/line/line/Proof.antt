@@ -1,12 +1,9 @@
 -- `stream::line::line` meets its contract.
 -- Assumes nothing.
 use mathlib.Core.Path.{sym, _∙_, ap}
-use mathlib.Core.List.{[]}
 use Rattle.field.specs.Field.{p}
-use Rattle.memory.specs.declared.State.{State}
 use Rattle.memory.specs.Step.{stepOf, rowOf}
-use Rattle.memory.specs.Stream.{reading}
-use Rattle.stream.specs.Progress.{standing, namedOf}
+use Rattle.memory.specs.Stream.{stand, namesRead}
 use Rattle.stream.proofs.Places.{line-one, line-two, line-three, line-row}
 use borrow.Author.Needs.{needs}
 use Rattle.stream.proofs.line.line.Statement.{statement}
@@ -32,23 +29,23 @@ step-requires c κs = search needs
 
 returns : tie.Need-returns
 returns c =
-    let a = c .before .before .before .before .args in
-    c .named .ensures ∙ ap (namedOf 1 (a .state)) (c .before .value-names-line .ensures) ∙ sym (line-one p _ _ _ (c .before .before .match .keys1))
+    let a = c .before .before .before .before .before .args in
+    c .named .ensures ∙ ap (namesRead 1 (a .stand .state)) (c .before .value-names-line .ensures) ∙ sym (line-one p _ _ (c .before .before .match .keys1))
 
 returns-2 : tie.Need-returns-2
-unfolding standing
-returns-2 c = ap (λ (s : State). reading 3 s []) (c .opened .ensures) ∙ sym (line-two p _ _ _ (c .before .match .keys2))
+unfolding stand
+returns-2 c = ap (stand 3) (c .opened .ensures) ∙ sym (line-two p _ _ (c .before .match .keys2))
 
 returns-3 : tie.Need-returns-3
-returns-3 c = c .row-names .ensures ∙ sym (line-three p _ _ _ (c .before .match .keys3))
+returns-3 c = c .row-names .ensures ∙ sym (line-three p _ _ (c .before .match .keys3))
 
 returns-4 : tie.Need-returns-4
-unfolding standing rowOf
+unfolding stand rowOf
 returns-4 c =
-    let a = c .before .before .before .before .args in
+    let a = c .before .before .before .before .before .args in
     let none = c .before .before .match .rest in
-    ap (λ (s : State). reading 4 s []) (c .step .ensures ∙ ap (stepOf p (a .state)) (c .before .row-line .ensures))
-    ∙ sym (line-row p _ _ _ (none .0 .0 .1) (none .0 .1) (none .1))
+    ap (stand 4) (c .step .ensures ∙ ap (stepOf p (a .stand .state)) (c .before .row-line .ensures))
+    ∙ sym (line-row p _ _ (none .0 .0 .1) (none .0 .1) (none .1))
 
 pub line-spec : {M : Type 1} → statement M
 line-spec =

@@ -1,7 +1,7 @@
 -- `stream::line::named` meets its contract.
 -- Assumes nothing.
 use borrow.Author.Tests.{eq-eqb, ne-eqb}
-use Rattle.stream.specs.Progress.{standing, namedOf}
+use Rattle.memory.specs.Stream.{stand, namesRead}
 use borrow.Author.Needs.{needs}
 use Rattle.stream.proofs.line.named.Statement.{statement}
 use Rattle.stream.proofs.line.named.Tie as tie
@@ -10,14 +10,14 @@ add-t5 : tie.Need-add-t5
 add-t5 c = search needs
 
 returns : tie.Need-returns
-unfolding standing namedOf
+unfolding stand namesRead
 returns c = simp (eq-eqb _ _ (c .if1 .taken))
 
 refused-requires : tie.Need-refused-requires
 refused-requires c κs = search needs
 
 returns-2 : tie.Need-returns-2
-unfolding standing namedOf
+unfolding stand namesRead
 returns-2 c = simp (ne-eqb _ _ (c .before .if1 .left), c .refused .ensures)
 
 pub named-spec : {M : Type 1} → statement M

@@ -2,7 +2,7 @@
 -- Assumes nothing.
 use mathlib.Core.Path.{sym, _∙_, ap}
 use borrow.Author.Tests.{not-true, not-false}
-use Rattle.stream.specs.Progress.{standing, namedOf}
+use Rattle.memory.specs.Stream.{stand, namesRead}
 use Rattle.stream.proofs.Places.{row-names-taken, row-names-passed}
 use borrow.Author.Needs.{needs}
 use Rattle.stream.proofs.line.row_names.Statement.{statement}
@@ -12,7 +12,7 @@ takes-rows-requires : tie.Need-takes-rows-requires
 takes-rows-requires c κs = search needs
 
 returns : tie.Need-returns
-unfolding standing
+unfolding stand
 returns c =
     let takes = c .before .takes-rows in
     sym (row-names-passed _ _ (sym (takes .ensures) ∙ not-true (takes .result) (c .if1 .taken)))
@@ -27,7 +27,7 @@ returns-2 : tie.Need-returns-2
 returns-2 c =
     let takes = c .before .before .before .takes-rows in
     c .named .ensures
-    ∙ ap (namedOf 3 (c .before .before .before .before .before .args .state)) (c .before .row-names-line .ensures)
+    ∙ ap (namesRead 3 (c .before .before .before .before .before .args .state)) (c .before .row-names-line .ensures)
     ∙ sym (row-names-taken _ _ (sym (takes .ensures) ∙ not-false (takes .result) (c .before .before .if1 .left)))
 
 pub row-names-spec : {M : Type 1} → statement M

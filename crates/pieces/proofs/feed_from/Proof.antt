@@ -1,25 +1,24 @@
--- `fillfile::block::feed_from` meets its contract. The loop's invariant: the first line feed from the start on is that from the position on.
+-- `pieces::feed_from` meets its contract. The loop's invariant: the first line feed from the start on is that from the position on.
 -- Assumes nothing.
-use Prim.Native.Nat.{_+_, _-_, _≤_}
+use Prim.Native.Nat.{_+_, _-_}
 use native.Mathlib.Omega.{arith}
 use mathlib.Core.Path.{_≡_, refl}
 use borrow.Author.Tests.{eq-eqb, ne-eqb}
 use lib.ListN.{length, drop}
 use Rattle.memory.specs.Bytes.{feed}
-use Rattle.fillfile.specs.Progress.{untilFeed}
-use Rattle.fillfile.proofs.Feeds.{feed-here, feed-later, feed-none}
-use Rattle.fillfile.proofs.block.feed_from.Statement.{statement}
-use Rattle.fillfile.proofs.block.feed_from.Tie as tie
+use Rattle.pieces.specs.Block.{untilFeed}
+use Rattle.pieces.proofs.Feeds.{feed-here, feed-later, feed-none}
+use Rattle.pieces.proofs.feed_from.Statement.{statement}
+use Rattle.pieces.proofs.feed_from.Tie as tie
 
 abbrev Inv-loop : tie.InvT-loop
-Inv-loop block from i₀ i =
-    (i ≤ length block) × (from + untilFeed (drop from block) ≡ i + untilFeed (drop i block))
+Inv-loop block from i₀ i = from + untilFeed (drop from block) ≡ i + untilFeed (drop i block)
 
 abbrev μ-loop : tie.MeasureT-loop
 μ-loop block from i₀ i = length block - i
 
 loop-holds : tie.Need-loop-holds Inv-loop μ-loop
-loop-holds c = (c .pre, refl)
+loop-holds c = refl
 
 shared-slice-read-if1 : tie.Need-shared-slice-read-if1 Inv-loop μ-loop
 shared-slice-read-if1 c = omega arith
@@ -29,7 +28,7 @@ unfolding feed
 returns c =
     let l = c .before .before .before in
     let here = feed-here (l .before .args .block .now) (l .loop .i) (omega arith) (eq-eqb _ _ (c .if1 .taken)) in
-    omega (arith, l .loop .inv .1)
+    omega (arith, l .loop .inv)
 
 add-i : tie.Need-add-i Inv-loop μ-loop
 add-i c = omega arith
@@ -42,12 +41,12 @@ unfolding feed
 loop-again c =
     let l = c .before .before .before in
     let later = feed-later (l .before .args .block .now) (l .loop .i) (omega arith) (ne-eqb _ _ (c .if1 .left)) in
-    (omega arith, omega (arith, l .loop .inv .1))
+    omega (arith, l .loop .inv)
 
 returns-2 : tie.Need-returns-2 Inv-loop μ-loop
 returns-2 c =
     let none = feed-none (c .before .before .args .block .now) (c .before .loop .i) (omega arith) in
-    omega (arith, c .before .loop .inv .1)
+    omega (arith, c .before .loop .inv)
 
 pub feed-from-spec : {M : Type 1} → statement M
 feed-from-spec =

@@ -1,6 +1,6 @@
 -- Line feeds in a block: where the first one stands, and what the bytes up to it and without one do to lines that are read in pieces.
 -- Assumes nothing.
-use Prim.Native.Nat.{ℕ, suc, _+_, _-_, _≤_, _<_, min}
+use Prim.Native.Nat.{ℕ, suc, _+_, _-_, _≤_, _<_}
 use native.Mathlib.Nat.{not-suc-le-zero, le-of-suc-le-suc}
 use native.Mathlib.Numerals.{add-one}
 use native.Mathlib.Omega.{arith}
@@ -11,10 +11,9 @@ use lib.Dec.{eqb}
 use lib.ListN.{length, take, drop, getD, drop-of-length-le, length-drop, take-append-drop}
 use lib.Seq.{drop-cons, take-add}
 use Rattle.memory.specs.Bytes.{Line, feed, longest}
-use Rattle.memory.specs.Pieces.{Piece, piece, byteIn, bytesIn}
-use Rattle.memory.proofs.Pieces.{cut, lineWith, pieces-cut, byte-feeds, byte-kept}
-use Rattle.fillfile.specs.Progress.{untilFeed}
-use Rattle.fillfile.proofs.Parts.{take-of-take, drop-of-take}
+use Rattle.memory.specs.Pieces.{cut, Piece, piece, byteIn, bytesIn}
+use Rattle.memory.proofs.Pieces.{lineWith, pieces-cut, byte-feeds, byte-kept}
+use Rattle.pieces.specs.Block.{untilFeed}
 
 -- the first line feed from a position on: at it, before it, and past the end
 pub feed-here : (block : List ℕ) (i : ℕ) → i < length block → eqb (getD block i 0) feed ≡ true → untilFeed (drop i block) ≡ 0
@@ -108,14 +107,3 @@ module _ {S : Type 0} (line : S → Line → S)
         ∙ pieces-cut line (piece s []) (take used block) (drop used block)
         ∙ ap (λ (v : Piece S). bytesIn line v (drop used block)) read
         ∙ rest-read r [] (drop used block) rest
-
-    -- the filled part of a buffer: its whole lines are read, and of the rest as many bytes are kept as show that a line is too long
-    pub filled-read : (s r : S) (buffer : List ℕ) (filled used count : ℕ) → bytesIn line (piece s []) (take used (take filled buffer)) ≡ piece r []
-        → untilFeed (drop used (take filled buffer)) ≡ length (drop used (take filled buffer)) → count ≡ min (filled - used) (suc longest)
-        → bytesIn line (piece s []) (take filled buffer) ≡ piece r (take count (drop used buffer))
-    unfolding cut longest
-    filled-read s r buffer filled used count read rest size =
-        let swapped : min 81 (filled - used) ≡ count = omega arith in
-        let front = ap (take 81) (drop-of-take used filled buffer) ∙ take-of-take 81 (filled - used) (drop used buffer)
-        ∙ ap (λ (n : ℕ). take n (drop used buffer)) swapped in
-        block-read s r (take filled buffer) used read rest ∙ ap (piece r) front

@@ -1,0 +1,7 @@
+-- Every statement of this crate is proved.
+-- Assumes nothing.
+use Rattle.stream.specs.Promises.{Promises}
+use Rattle.stream.proofs.File.{pieces-are-file}
+
+pub promises : Promises
+promises = record { file = pieces-are-file }
