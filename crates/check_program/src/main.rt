@@ -4,9 +4,6 @@ use libc::STDIN_FILENO;
 use libc::STDOUT_FILENO;
 use stream::Progress;
 
-// The buffer: the most bytes of an unfinished line that are kept, and a block of 64 KiB behind them.
-const BUFFER: usize = 65664;
-
 // What one read came to.
 struct Turn {
     progress: Progress,
@@ -77,6 +74,6 @@ fn run(buf: &mut [u8]) {
 }
 
 fn main() {
-    let mut buf = [0u8; BUFFER];
+    let mut buf = [0u8; pieces::BUFFER];
     run(&mut buf);
 }

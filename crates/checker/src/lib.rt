@@ -7,6 +7,7 @@ use memory::Products;
 use memory::Report;
 use memory::State;
 use memory::numbers;
+use rules::counters;
 use rules::due;
 
 mod state;
@@ -162,7 +163,7 @@ pub fn report(s: State) -> Report
             mults: c.mults,
         }
     } else {
-        refused(numbers::NOT_COMPLETE, passing::raise(c.passed, 4))
+        refused(numbers::NOT_COMPLETE, counters::raise(c.passed, 4))
     }
 }
 

@@ -2,6 +2,7 @@
 use memory::Context;
 use memory::Row;
 use memory::State;
+use rules::counters;
 ghost use mathlib.Core.Path.{_≡_};
 ghost use Rattle.field.specs.Field.{p};
 ghost use Rattle.memory.specs.Step.{takesRows, refuseAt, refuseNext, refuseLast, withContext, takeRow, accepting};
@@ -30,7 +31,7 @@ pub(crate) fn refuse_next(s: State, fault: u32) -> State
     ensures { λ r. ⌜ r ≡ withContext s (refuseNext (s .context) fault) ⌝ }
 {
     let c = s.context;
-    refuse(s, fault, passing::raise(c.passed, 4))
+    refuse(s, fault, counters::raise(c.passed, 4))
 }
 
 // The last of k rows stands on line k + 3.
@@ -38,7 +39,7 @@ pub(crate) fn refuse_last(s: State, fault: u32) -> State
     ensures { λ r. ⌜ r ≡ withContext s (refuseLast (s .context) fault) ⌝ }
 {
     let c = s.context;
-    refuse(s, fault, passing::raise(c.passed, 3))
+    refuse(s, fault, counters::raise(c.passed, 3))
 }
 
 // The accepted end of file.

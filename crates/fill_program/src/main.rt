@@ -4,17 +4,6 @@ use fillfile::Progress;
 use libc::STDIN_FILENO;
 use libc::STDOUT_FILENO;
 
-// The buffer of the input: the most bytes of an unfinished line that are kept, and a block of 64 KiB behind them.
-const BUFFER: usize = 65664;
-// The words of 256 input rows, of 640 output rows, and of the scratch.
-const WORDS: usize = 1024;
-
-const OUTPUT: usize = 4480;
-
-const SCRATCH: usize = 640;
-// The most bytes that are printed, rounded up.
-const TEXT: usize = 86016;
-
 // What one read came to.
 struct Turn {
     progress: Progress,
@@ -57,9 +46,9 @@ fn write_first(text: &[u8], n: usize) {
 
 // The end of input: prints what the library puts into the text.
 fn print_end(progress: Progress, buf: &[u8], words: &mut [u32]) {
-    let mut out = [0u32; OUTPUT];
-    let mut scratch = [0u32; SCRATCH];
-    let mut text = [0u8; TEXT];
+    let mut out = [0u32; fillfile::OUTPUT];
+    let mut scratch = [0u32; fillfile::SCRATCH];
+    let mut text = [0u8; fillfile::TEXT];
     let print::Put::At(end) = fillfile::finish(
         progress,
         buf,
@@ -94,7 +83,7 @@ fn run(buf: &mut [u8], words: &mut [u32]) {
 }
 
 fn main() {
-    let mut buf = [0u8; BUFFER];
-    let mut words = [0u32; WORDS];
+    let mut buf = [0u8; pieces::BUFFER];
+    let mut words = [0u32; fillfile::WORDS];
     run(&mut buf, &mut words);
 }

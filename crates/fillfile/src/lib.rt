@@ -17,13 +17,18 @@ ghost use Rattle.print.specs.Put.{putOf, written};
 ghost use Rattle.fillfile.specs.Progress.{begun, leftBy};
 ghost use Rattle.fillfile.specs.Ending.{Finished};
 
-// "The filling program takes size and count up to 128": the words that it lends for the rows, the output and the scratch, and the most bytes that it prints.
-pub const WORDS: usize = 1024;
+// "The filling program takes size and count up to 128".
+const LIMIT: usize = 128;
 
-pub const OUTPUT: usize = 4480;
+// The words that the program lends: 4 for each row of its input,
+pub const WORDS: usize = 4 * (LIMIT + LIMIT);
 
-pub const SCRATCH: usize = 640;
+// "room for 2n + 3T output rows and 2n + 3T scratch words", 7 words to a row,
+pub const OUTPUT: usize = 7 * SCRATCH;
 
+pub const SCRATCH: usize = 2 * LIMIT + 3 * LIMIT;
+
+// and the most bytes that it prints.
 pub const TEXT: usize = 85797;
 
 // Between two pieces of the input: what its lines left, and how many bytes of the line that is being read stand at the front of the caller's buffer. The caller

@@ -5,25 +5,18 @@ use lines::filling::Given;
 use lines::filling::Task;
 use memory::Intake;
 use memory::Op;
+use rules::counters;
+use rules::ops;
 ghost use mathlib.Core.Path.{_≡_};
 ghost use Prim.Native.Nat.{_<_};
 ghost use lib.ListN.{set};
 ghost use Rattle.field.specs.Field.{p};
-ghost use Rattle.memory.specs.Names.{opCode};
-ghost use Rattle.memory.specs.Step.{raise};
 ghost use Rattle.memory.specs.FillFile.{parseJob};
 ghost use Rattle.memory.specs.FillStream.{gathered, refuseOn, namesTaken, jobTaken, rowsDue, refuseRow, inputTaken, rowTaken, lineTaken};
 ghost use Rattle.fillfile.specs.Progress.{inputFaultAt, storedWords, givenRow};
 
 // The op of an init row.
 const INIT: u32 = 0;
-
-// A sum that ends at the largest number.
-pub fn raise(x: u32, k: u32) -> u32
-    ensures { λ r. ⌜ r ≡ raise x k ⌝ }
-{
-    if u32::MAX - k < x { u32::MAX } else { x + k }
-}
 
 // A fault on a line.
 pub fn refuse(mut intake: Intake, answer: u32, line: u32) -> Intake
@@ -38,7 +31,7 @@ pub fn refuse(mut intake: Intake, answer: u32, line: u32) -> Intake
 pub fn refuse_row(intake: Intake, answer: u32) -> Intake
     ensures { λ r. ⌜ r ≡ refuseRow intake answer ⌝ }
 {
-    let line = raise(intake.passed, 4);
+    let line = counters::raise(intake.passed, 4);
     refuse(intake, answer, line)
 }
 
@@ -83,25 +76,6 @@ fn opened(intake: Intake, text: &[u8], ended: bool) -> Intake
     }
 }
 
-// The number of an op.
-fn code(op: Op) -> u32
-    ensures { λ r. ⌜ r ≡ opCode op ⌝ }
-{
-    match op {
-        Op::Init => INIT,
-        Op::Access => 1,
-        Op::Look => 2,
-        Op::Member => 3,
-        Op::Push => 4,
-        Op::Pop => 5,
-        Op::Enqueue => 6,
-        Op::Dequeue => 7,
-        Op::End => 8,
-        Op::Range => 9,
-        Op::Other => 10,
-    }
-}
-
 // 3, 5 and 6 of the next row.
 fn fault(intake: Intake, op: u32, guard: u32, addr: u32, value: u32) -> u32
     ensures { λ r. ⌜ r ≡ inputFaultAt intake op guard addr value ⌝ }
@@ -140,13 +114,13 @@ fn store(words: &mut [u32], k: u32, op: u32, guard: u32, addr: u32, value: u32)
 fn take(mut intake: Intake, op: Op, guard: u32, addr: u32, value: u32, words: &mut [u32]) -> Intake
     ensures { λ r. ⌜ gathered r (now (words .exit)) ≡ inputTaken p (gathered intake (now (words .entry))) (givenRow op guard addr value) ⌝ }
 {
-    let number = code(op);
+    let number = ops::code(op);
     let fault = fault(intake, number, guard, addr, value);
     if fault != 0 {
         return refuse_row(intake, fault);
     }
     store(words, intake.passed, number, guard, addr, value);
-    intake.passed = raise(intake.passed, 1);
+    intake.passed = counters::raise(intake.passed, 1);
     intake
 }
 

@@ -6,6 +6,7 @@ use memory::Op;
 use memory::Row;
 use memory::numbers;
 use rules::columns;
+use rules::counters;
 use rules::due;
 use rules::ops;
 
@@ -18,22 +19,12 @@ ghost use lib.Dec.{eqb, leb};
 ghost use Rattle.algebra.specs.Modulo.{times};
 ghost use Rattle.field.specs.Field.{p};
 ghost use Rattle.memory.specs.Rows.{raiseBy, lowerBy, depthFactor};
-ghost use Rattle.memory.specs.Step.{raise, pass, sinks, stepFault};
+ghost use Rattle.memory.specs.Step.{pass, sinks, stepFault};
 
 // What becomes of a row: its fault, or 0, and the context after it.
 pub struct Judged {
     pub fault: u32,
     pub next: Context,
-}
-
-// The largest number of a counter.
-const TOP: u32 = 4294967295;
-
-// x + k, and at most the largest number of a counter.
-pub fn raise(x: u32, k: u32) -> u32
-    ensures { λ r. ⌜ r ≡ raise x k ⌝ }
-{
-    if k <= TOP - x { x + k } else { TOP }
 }
 
 // By how much a row raises the depth: "Push adds guard to depth", "Enqueue adds guard to depth".
@@ -82,12 +73,12 @@ fn pass(c: Context, row: Row) -> Context
         memory,
         size: c.size,
         count: c.count,
-        passed: raise(c.passed, 1),
-        pushed: raise(c.pushed, rises(op, row.guard)),
-        popped: raise(c.popped, falls(op, row.guard)),
+        passed: counters::raise(c.passed, 1),
+        pushed: counters::raise(c.pushed, rises(op, row.guard)),
+        popped: counters::raise(c.popped, falls(op, row.guard)),
         depths: depths(c, row),
-        inputs: raise(c.inputs, gates::inputs(memory, op)),
-        mults: raise(c.mults, gates::mults(memory, op)),
+        inputs: counters::raise(c.inputs, gates::inputs(memory, op)),
+        mults: counters::raise(c.mults, gates::mults(memory, op)),
         answer: c.answer,
         line: c.line,
         ended: c.ended,

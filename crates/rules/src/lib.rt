@@ -1,6 +1,7 @@
-// The rules that the checker and the filler share: sizes, which rows are due, what a row looks like, ages, and the numbers of the ops.
+// The rules that the checker and the filler share: sizes, which rows are due, what a row looks like, ages, counters, and the numbers of the ops.
 pub mod ages;
 pub mod columns;
+pub mod counters;
 pub mod due;
 pub mod ops;
 pub mod sizes;

@@ -1,9 +1,9 @@
--- `fillfile::line::raise` meets its contract.
+-- `rules::counters::raise` meets its contract.
 -- Assumes nothing.
-use Rattle.memory.specs.Step.{top, raise}
 use borrow.Author.Needs.{needs}
-use Rattle.fillfile.proofs.line.raise.Statement.{statement}
-use Rattle.fillfile.proofs.line.raise.Tie as tie
+use Rattle.memory.specs.Step.{top, raise}
+use Rattle.rules.proofs.counters.raise.Statement.{statement}
+use Rattle.rules.proofs.counters.raise.Tie as tie
 
 sub-if1 : tie.Need-sub-if1
 sub-if1 c = search needs
