@@ -1,15 +1,10 @@
+-- `check_program::run` meets its contract. The loop's invariant: the buffer stays as long as it was.
+-- Assumes nothing.
 use mathlib.Core.Path.{_≡_}
 use lib.ListN.{length}
 use borrow.Author.Needs.{needs}
 use Rattle.check_program.proofs.run.Statement.{statement}
 use Rattle.check_program.proofs.run.Tie as tie
-use Rattle.check_program.proofs.run.Reads as reads
-use Rattle.check_program.proofs.run.Lts as lts
-use Rattle.check_program.proofs.print_report.Reads as print-report-reads
-use Rattle.check_program.proofs.read_some.Reads as read-some-reads
-use Rattle.os.proofs.fail.Reads as fail-reads
-use Rattle.stream.proofs.finish.Reads as finish-reads
-use Rattle.stream.proofs.start.Reads as start-reads
 
 abbrev Inv-loop : tie.InvT-loop
 Inv-loop buf₀ progress₀ turns₀ t5 buf progress turns = length buf ≡ length buf₀
@@ -17,67 +12,51 @@ Inv-loop buf₀ progress₀ turns₀ t5 buf progress turns = length buf ≡ leng
 abbrev μ-loop : tie.MeasureT-loop
 μ-loop buf₀ progress₀ turns₀ t5 buf progress turns = turns
 
--- src/main.rt:61:9
 start-requires : tie.Need-start-requires Inv-loop μ-loop
 start-requires c κs = search needs
 
--- src/main.rt:63:5
 loop-holds : tie.Need-loop-holds Inv-loop μ-loop
 loop-holds c = search needs
 
--- src/main.rt:64:13
 read-some-requires : tie.Need-read-some-requires Inv-loop μ-loop
 read-some-requires c κs = search needs
 
--- src/main.rt:66:22
 slice-aggregate-fail : tie.Need-slice-aggregate-fail Inv-loop μ-loop
 slice-aggregate-fail c = search needs
 
--- src/main.rt:66:13
 fail-requires : tie.Need-fail-requires Inv-loop μ-loop
 fail-requires c κs = search needs
 
--- src/main.rt:67:13
 same-length : tie.Need-same-length Inv-loop μ-loop
 same-length c = search needs
 
--- src/main.rt:67:13
 returns : tie.Need-returns Inv-loop μ-loop
 returns c = search needs
 
--- src/main.rt:71:26
 finish-requires : tie.Need-finish-requires Inv-loop μ-loop
 finish-requires c κs = search needs
 
--- src/main.rt:71:13
 print-report-requires : tie.Need-print-report-requires Inv-loop μ-loop
 print-report-requires c κs = search needs
 
--- src/main.rt:72:13
 same-length-2 : tie.Need-same-length-2 Inv-loop μ-loop
 same-length-2 c = search needs
 
--- src/main.rt:72:13
 returns-2 : tie.Need-returns-2 Inv-loop μ-loop
 returns-2 c = search needs
 
--- src/main.rt:74:9
 sub-turns : tie.Need-sub-turns Inv-loop μ-loop
 sub-turns c = search needs
 
--- src/main.rt:63:5
 loop-less : tie.Need-loop-less Inv-loop μ-loop
 loop-less c = search needs
 
--- src/main.rt:63:5
 loop-again : tie.Need-loop-again Inv-loop μ-loop
 loop-again c = search needs
 
--- src/main.rt:60:1
 same-length-3 : tie.Need-same-length-3 Inv-loop μ-loop
 same-length-3 c = search needs
 
--- src/main.rt:60:1
 returns-3 : tie.Need-returns-3 Inv-loop μ-loop
 returns-3 c = search needs
 

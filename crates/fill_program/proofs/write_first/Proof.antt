@@ -1,25 +1,20 @@
+-- `fill_program::write_first` meets its contract.
+-- Assumes nothing.
 use mathlib.Core.Path.{sym}
 use lib.Seq.{length-take-le}
 use borrow.Author.Needs.{needs}
 use Rattle.fill_program.proofs.write_first.Statement.{statement}
 use Rattle.fill_program.proofs.write_first.Tie as tie
-use Rattle.fill_program.proofs.write_first.Reads as reads
-use Rattle.fill_program.proofs.write_first.Lts as lts
-use Rattle.io.proofs.write_all.Reads as write-all-reads
 
--- src/main.rt:45:38
 slice-aggregate-write-all : tie.Need-slice-aggregate-write-all
 slice-aggregate-write-all c = sym (length-take-le _ _ (search needs))
 
--- src/main.rt:45:9
 write-all-requires : tie.Need-write-all-requires
 write-all-requires c κs = search needs
 
--- src/main.rt:43:1
 returns : tie.Need-returns
 returns c = search needs
 
--- src/main.rt:43:1
 returns-2 : tie.Need-returns-2
 returns-2 c = search needs
 

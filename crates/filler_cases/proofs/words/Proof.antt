@@ -1,11 +1,10 @@
+-- `filler_cases::words` meets its contract. The loop's invariant: the position lies in the slice.
+-- Assumes nothing.
 use Prim.Native.Nat.{_≤_, _-_}
 use lib.ListN.{length}
 use borrow.Author.Needs.{needs}
 use Rattle.filler_cases.proofs.words.Statement.{statement}
 use Rattle.filler_cases.proofs.words.Tie as tie
-use Rattle.filler_cases.proofs.words.Reads as reads
-use Rattle.filler_cases.proofs.words.Lts as lts
-use Rattle.filler_cases.proofs.word.Reads as word-reads
 
 abbrev Inv-loop : tie.InvT-loop
 Inv-loop slice i₀ i = i ≤ length slice
@@ -13,35 +12,27 @@ Inv-loop slice i₀ i = i ≤ length slice
 abbrev μ-loop : tie.MeasureT-loop
 μ-loop slice i₀ i = length slice - i
 
--- src/main.rt:17:5
 loop-holds : tie.Need-loop-holds Inv-loop μ-loop
 loop-holds c = search needs
 
--- src/main.rt:18:14
 mul-word : tie.Need-mul-word Inv-loop μ-loop
 mul-word c = search needs
 
--- src/main.rt:18:14
 shared-slice-read-word : tie.Need-shared-slice-read-word Inv-loop μ-loop
 shared-slice-read-word c = search needs
 
--- src/main.rt:18:9
 word-requires : tie.Need-word-requires Inv-loop μ-loop
 word-requires c κs = search needs
 
--- src/main.rt:19:9
 add-i : tie.Need-add-i Inv-loop μ-loop
 add-i c = search needs
 
--- src/main.rt:17:5
 loop-less : tie.Need-loop-less Inv-loop μ-loop
 loop-less c = search needs
 
--- src/main.rt:17:5
 loop-again : tie.Need-loop-again Inv-loop μ-loop
 loop-again c = search needs
 
--- src/main.rt:15:1
 returns : tie.Need-returns Inv-loop μ-loop
 returns c = search needs
 
