@@ -1,0 +1,6 @@
+pub mod Values
+pub mod Places
+pub mod Sides
+pub mod Search
+pub mod Insertion
+pub mod Promises

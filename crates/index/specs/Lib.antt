@@ -1,0 +1,4 @@
+pub mod Values
+pub mod Tree
+pub mod Statements
+pub mod Promises
