@@ -4,17 +4,16 @@
 --     counts-turn     the counts after a lookup are those of one key more
 --     ranges-are      counts of every age give the range rows
 -- Assumes nothing.
-use Prim.Native.Nat.{ℕ, zero, suc, _+_, _-_, _*_, _≤_, _<_}
+use Prim.Native.Nat.{ℕ, zero, suc, _+_, _≤_, _<_}
 use native.Mathlib.Omega.{arith}
 use native.Mathlib.Decide.{ℕ-discrete}
 use mathlib.Core.Bool.{Bool, true, false, cond}
 use mathlib.Core.Path.{_≡_, refl, sym, ap, _∙_}
 use mathlib.Core.List.{List, [], _∷_}
 use lib.Dec.{eqb}
-use lib.ListN.{length, getD, set}
+use lib.ListN.{length, getD}
 use lib.Seq.{getD-set-same, getD-set-other}
 use borrow.Author.Tests.{eq-eqb, ne-eqb}
-use Rattle.memory.specs.declared.Row.{Row}
 use Rattle.memory.specs.Honest.{occurrences, rangeRow, rangeRowsFrom}
 use Rattle.filler.specs.Steps.{counted}
 use Rattle.filler.specs.Ends.{ranges}

@@ -2,18 +2,18 @@
 -- Assumes nothing.
 use Prim.Native.Nat.{ℕ, zero, suc, _+_, _-_, _*_, _≤_, _<_}
 use native.Mathlib.Omega.{arith}
-use mathlib.Core.Path.{_≡_, refl, sym, ap, _∙_}
-use mathlib.Core.List.{List, [], _∷_, _++_}
+use mathlib.Core.Path.{_≡_, refl, ap, _∙_}
+use mathlib.Core.List.{List, [], _∷_}
 use lib.ListN.{length, getD, drop, length-append}
 use lib.Seq.{sets}
 use Rattle.memory.specs.declared.Memory.{Memory}
 use Rattle.memory.specs.declared.Memory.the-variants.{Ram, Rom, Set, Stack, Queue}
-use Rattle.memory.specs.declared.Row.{Row}
 use Rattle.memory.specs.Names.{opCode}
 use Rattle.memory.specs.Honest.{endRow, rangeRow}
 use Rattle.memory.specs.Filler.{rowNumbers}
 use Rattle.filler.specs.declared.steps.Cursor.{Cursor}
-use Rattle.filler.specs.Words.{laid, valuesIn, valueAt}
+use Rattle.index.specs.Values.{valuesIn, valueAt}
+use Rattle.filler.specs.Words.{laid}
 use Rattle.filler.specs.Ends.{cellEnds, valueEnds, ranges, ending, EndingFits}
 use Rattle.filler.proofs.Inputs.{values-cons, values-count}
 use Rattle.filler.proofs.Laid.{laid-put}

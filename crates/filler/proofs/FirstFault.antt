@@ -3,24 +3,23 @@
 --     first-fault       the first fault of all rows, as the scan of the init rows and the scan of the operations find it
 --     clean-inits, clean-operations    where there is none, neither scan finds one
 -- Assumes nothing.
-use Prim.Native.Nat.{ℕ, zero, suc, _+_, _-_, _*_, _≤_, _<_}
+use Prim.Native.Nat.{ℕ, suc, _+_, _-_}
 use native.Mathlib.Omega.{arith}
 use mathlib.Core.Bool.{Bool, true, false, cond}
-use mathlib.Core.Path.{_≡_, refl, sym, ap, subst, _∙_}
-use mathlib.Core.List.{List, [], _∷_, _++_}
+use mathlib.Core.Path.{_≡_, refl, sym, ap, _∙_}
+use mathlib.Core.List.{List, [], _∷_}
 use lib.Dec.{eqb, ltb, leb·suc-zero}
-use lib.ListN.{length, set, drop, length-set, length-append, length-drop}
-use borrow.Author.Tests.{eqb-true, eqb-false, eq-eqb, lt-ltb}
+use lib.ListN.{length, length-set, length-append, length-drop}
+use borrow.Author.Tests.{eqb-true, eqb-false, lt-ltb}
 use Rattle.memory.specs.declared.Memory.{Memory}
 use Rattle.memory.specs.declared.Memory.the-variants.{Ram, Rom, Set, Stack, Queue}
-use Rattle.memory.specs.declared.Op.the-variants.{Push, Enqueue}
-use Rattle.memory.specs.declared.Phase.the-variants.{Starting, Operating}
+use Rattle.memory.specs.declared.Phase.the-variants.{Operating}
 use Rattle.memory.specs.Names.{opCode, isOp}
 use Rattle.memory.specs.Rows.{opsDue, sized}
-use Rattle.memory.specs.Plain.{Operation, store, load, push, skippedPush, pop, skippedPop, enqueue, skippedEnqueue, dequeue, skippedDequeue, start, after, among, front, holds, operationOf}
+use Rattle.memory.specs.Plain.{store, load, push, skippedPush, pop, skippedPop, enqueue, skippedEnqueue, dequeue, skippedDequeue, start, after, among, front, holds, operationOf}
 use Rattle.memory.specs.Honest.{Input, bare, filledRow, impossible, inputOperation}
 use Rattle.memory.specs.Filler.{inputFault, operationFault, operationsFault, rowsFault, Placed, placed}
-use Rattle.filler.specs.Scan.{emptied, refusal, moved, leveled, faultAt, scanned, initFault, initsScanned}
+use Rattle.filler.specs.Scan.{refusal, leveled, faultAt, scanned, initFault, initsScanned}
 use Rattle.filler.proofs.Forms.{init-any}
 
 -- what a scan knows of the content: of a set, that it is the values

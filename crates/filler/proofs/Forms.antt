@@ -4,13 +4,13 @@
 --     init-form, operation-form    5 and 6 of a row by its words
 --     init-any        an init row has the same fault in every memory
 -- Assumes nothing.
-use Prim.Native.Nat.{ℕ, zero, suc, _+_, _≤_, _<_}
+use Prim.Native.Nat.{ℕ, zero, suc, _≤_}
 use native.Mathlib.Omega.{arith}
 use mathlib.Core.Bool.{Bool, true, false, cond, _||_, _&&_, and-true, and-false, and-assoc}
-use mathlib.Core.Path.{_≡_, refl, sym, ap, subst, _∙_}
-use mathlib.Core.List.{List, [], _∷_}
-use lib.Dec.{eqb, leb, ltb}
-use borrow.Author.Tests.{eqb-true, eqb-false, eq-eqb, ne-eqb, leb-true, leb-false, le-leb}
+use mathlib.Core.Path.{_≡_, refl, sym, ap, _∙_}
+use mathlib.Core.List.{[], _∷_}
+use lib.Dec.{eqb, leb}
+use borrow.Author.Tests.{eqb-true, ne-eqb, leb-true, leb-false, le-leb}
 use Rattle.memory.specs.declared.Memory.{Memory}
 use Rattle.memory.specs.declared.Memory.the-variants.{Ram, Rom, Set, Stack, Queue}
 use Rattle.memory.specs.declared.Op.{Op}
@@ -21,7 +21,7 @@ use Rattle.memory.specs.Bytes.{allBelow}
 use Rattle.memory.specs.Rows.{opsDue, opIn, formed, used, columns, empty}
 use Rattle.memory.specs.Honest.{Input, bare, filledRow}
 use Rattle.memory.specs.Filler.{opCoded, inputFault}
-use Rattle.filler.specs.Scan.{single, paired, initForm, form, initFault}
+use Rattle.filler.specs.Scan.{single, initForm, form, initFault}
 
 -- a number below 10 stands for an op of that number
 pub coded : (o : ℕ) → o ≤ 9 → opCode (opCoded o) ≡ o

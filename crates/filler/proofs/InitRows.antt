@@ -2,7 +2,7 @@
 --     CleanInits, clean-init    no init row left has a fault; then the one there has none, and neither have those after it
 --     init-laid       the rows left begin with the row there
 -- Assumes nothing.
-use Prim.Native.Nat.{ℕ, zero, suc, _+_, _*_, _≤_}
+use Prim.Native.Nat.{ℕ, suc, _+_, _*_, _≤_}
 use native.Mathlib.Omega.{arith}
 use native.Mathlib.Numerals.{add-one}
 use mathlib.Core.Bool.{Bool, true, false, cond, _&&_}
@@ -16,7 +16,8 @@ use Rattle.field.specs.Field.{p}
 use Rattle.memory.specs.Bytes.{allBelow}
 use Rattle.memory.specs.Honest.{Input, bare}
 use Rattle.memory.specs.Filler.{inputsIn, Placed, placed}
-use Rattle.filler.specs.Words.{opAt, guardAt, addrAt, valueAt, inputAt, copied, laid}
+use Rattle.index.specs.Values.{valueAt}
+use Rattle.filler.specs.Words.{opAt, guardAt, addrAt, inputAt, copied, laid}
 use Rattle.filler.specs.Scan.{single, initForm, initFault, initsScanned}
 use Rattle.filler.proofs.Inputs.{inputs-cons}
 use Rattle.filler.proofs.Laid.{laid-put}

@@ -4,15 +4,15 @@
 --     inputs-take, inputs-drop    the first n input rows, and those after them, as parts of the words
 --     values-cons, values-at, values-count    the same of the values alone
 -- Assumes nothing.
-use Prim.Native.Nat.{ℕ, zero, suc, _+_, _*_, _≤_, _<_}
+use Prim.Native.Nat.{ℕ, zero, suc, _+_, _*_, _≤_}
 use native.Mathlib.Omega.{arith}
 use mathlib.Core.Path.{_≡_, refl, sym, ap, _∙_}
-use mathlib.Core.List.{List, [], _∷_, _++_, map}
+use mathlib.Core.List.{List, [], _∷_, map}
 use lib.ListN.{length, getD, take, drop, length-map}
-use lib.Seq.{drop-nil, take-nil, getD-at}
 use Rattle.memory.specs.Honest.{Input}
 use Rattle.memory.specs.Filler.{opCoded, inputsIn}
-use Rattle.filler.specs.Words.{opAt, guardAt, addrAt, valueAt, inputAt, valuesIn}
+use Rattle.index.specs.Values.{valueAt, valuesIn}
+use Rattle.filler.specs.Words.{inputAt}
 
 four-more : (k j : ℕ) → 4 * suc k + j ≡ suc (suc (suc (suc (4 * k + j))))
 four-more k j = omega arith

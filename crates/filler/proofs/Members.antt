@@ -2,18 +2,24 @@
 --     among-first     an element is among a list where that place is before the end
 --     first-at        the element there is the one sought
 --     first-low       no place before it holds the element sought
+--     tree-finds      a set's search tree finds that place
 -- Assumes nothing.
-use Prim.Native.Nat.{ℕ, zero, suc, _+_, _≤_, _<_}
+use Prim.Native.Nat.{ℕ, zero, suc, _≤_, _<_}
 use native.Mathlib.Omega.{arith}
 use native.Mathlib.Decide.{ℕ-discrete}
 use mathlib.Core.Bool.{Bool, true, false, cond, _||_}
-use mathlib.Core.Path.{_≡_, refl, sym, ap, _∙_}
+use mathlib.Core.Path.{_≡_, sym, ap, _∙_}
 use mathlib.Core.List.{List, [], _∷_}
 use lib.Dec.{eqb, ltb, leb·suc-suc, leb·suc-zero}
-use lib.ListN.{length, getD}
-use borrow.Author.Tests.{eq-eqb, ne-eqb, lt-ltb}
+use lib.ListN.{length, getD, replicate}
+use borrow.Author.Tests.{lt-ltb}
 use Rattle.memory.specs.Plain.{among}
-use Rattle.filler.specs.Words.{firstAt}
+use Rattle.index.specs.Values.{valuesIn, firstAt}
+use Rattle.index.specs.Tree.{found, grown}
+use Rattle.index.proofs.Places.{first-here, first-later}
+use Rattle.index.proofs.Search.{search-finds-first}
+use Rattle.filler.specs.Words.{Treed}
+use Rattle.filler.proofs.Inputs.{values-count}
 
 pub among-first : (x : ℕ) (ys : List ℕ) → among x ys ≡ ltb (firstAt x ys) (length ys)
 unfolding among firstAt
@@ -23,15 +29,6 @@ among-first x (y ∷ ys) = go (eqb x y) (among-first x ys)
     go : (b : Bool) → among x ys ≡ ltb (firstAt x ys) (length ys) → (b || among x ys) ≡ ltb (cond b 0 (suc (firstAt x ys))) (suc (length ys))
     go true ih = sym (lt-ltb 0 (suc (length ys)) (omega arith))
     go false ih = ih ∙ sym (leb·suc-suc (suc (firstAt x ys)) (length ys))
-
--- by whether the first element is the one sought
-first-here : (x y : ℕ) (ys : List ℕ) → x ≡ y → firstAt x (y ∷ ys) ≡ 0
-unfolding firstAt
-first-here x y ys e = ap (λ (b : Bool). cond b 0 (suc (firstAt x ys))) (eq-eqb x y e)
-
-first-later : (x y : ℕ) (ys : List ℕ) → (x ≡ y → ⊥) → firstAt x (y ∷ ys) ≡ suc (firstAt x ys)
-unfolding firstAt
-first-later x y ys h = ap (λ (b : Bool). cond b 0 (suc (firstAt x ys))) (ne-eqb x y h)
 
 pub first-at : (x : ℕ) (ys : List ℕ) → firstAt x ys < length ys → getD ys (firstAt x ys) 0 ≡ x
 first-at x [] h = absurd (omega arith)
@@ -49,3 +46,10 @@ first-low x (y ∷ ys) (suc j) h e = go (ℕ-discrete x y) (first-low x ys j (om
     go : Dec (x ≡ y) → firstAt x ys ≤ j → firstAt x (y ∷ ys) ≤ suc j
     go (yes q) ih = omega (arith, first-here x y ys q)
     go (no n) ih = omega (arith, first-later x y ys n)
+
+pub tree-finds : (x w : ℕ) (inits links : List ℕ) → Treed w inits links → found x (valuesIn inits) links ≡ firstAt x (valuesIn inits)
+tree-finds x w inits links t =
+    let many : length (valuesIn inits) ≡ w = values-count inits w (t .held) in
+    let size = t .few in
+    ap (found x (valuesIn inits)) (t .tree ∙ ap (λ (n : ℕ). grown (valuesIn inits) (replicate n 0)) (sym many))
+    ∙ search-finds-first x (valuesIn inits) (omega arith)

@@ -4,7 +4,7 @@
 --     form-ram … form-queue       what a row without fault is
 --     copied-words    the words of an operation's row
 -- Assumes nothing.
-use Prim.Native.Nat.{ℕ, zero, suc, _+_, _-_, _*_, _≤_, _<_}
+use Prim.Native.Nat.{ℕ, suc, _+_, _*_, _≤_, _<_}
 use native.Mathlib.Omega.{arith}
 use native.Mathlib.Numerals.{add-one}
 use mathlib.Core.Bool.{Bool, true, false, cond, _&&_}
@@ -19,12 +19,12 @@ use Rattle.field.specs.Field.{p}
 use Rattle.memory.specs.declared.Memory.{Memory}
 use Rattle.memory.specs.declared.Memory.the-variants.{Ram, Rom, Set, Stack, Queue}
 use Rattle.memory.specs.declared.Row.{Row}
-use Rattle.memory.specs.Names.{opCode}
 use Rattle.memory.specs.Bytes.{allBelow}
 use Rattle.memory.specs.Plain.{among}
 use Rattle.memory.specs.Honest.{Input, filledRow}
-use Rattle.memory.specs.Filler.{opCoded, inputsIn, rowNumbers, Placed, placed}
-use Rattle.filler.specs.Words.{opAt, guardAt, addrAt, valueAt, inputAt, copied, laid}
+use Rattle.memory.specs.Filler.{inputsIn, rowNumbers, Placed, placed}
+use Rattle.index.specs.Values.{valueAt}
+use Rattle.filler.specs.Words.{opAt, guardAt, addrAt, inputAt, copied, laid}
 use Rattle.filler.specs.Steps.{few}
 use Rattle.filler.specs.Scan.{single, paired, emptied, form, refusal, leveled, faultAt, scanned}
 use Rattle.filler.proofs.Inputs.{inputs-cons}

@@ -3,25 +3,24 @@
 --     progress-ready, progress-stepped    an operation is possible, and after it the run is one operation further
 --     progress-ended      after all of them
 -- Assumes nothing.
-use Prim.Native.Nat.{ℕ, suc, _+_, _-_, _*_, _≤_, _<_}
+use Prim.Native.Nat.{ℕ, _+_, _*_, _≤_, _<_}
 use native.Mathlib.Omega.{arith}
 use mathlib.Core.Bool.{true}
-use mathlib.Core.Path.{_≡_, refl, sym, ap, subst, _∙_}
-use mathlib.Core.List.{List, []}
-use lib.ListN.{length, getD, drop, length-drop}
+use mathlib.Core.Path.{_≡_, refl, sym, subst}
+use mathlib.Core.List.{List}
+use lib.ListN.{length, drop, length-drop}
 use lib.Seq.{sets}
 use borrow.Author.Tests.{eqb-true}
 use Rattle.memory.specs.declared.Memory.{Memory}
 use Rattle.memory.specs.declared.Memory.the-variants.{Ram, Rom, Set, Stack, Queue}
-use Rattle.memory.specs.declared.Row.{Row}
 use Rattle.memory.specs.Rows.{sized}
 use Rattle.memory.specs.Honest.{operationsFilled}
 use Rattle.memory.specs.Filler.{inputsIn}
 use Rattle.filler.specs.declared.steps.Cursor.{Cursor}
-use Rattle.filler.specs.Words.{valuesIn, RowFits}
-use Rattle.filler.specs.Steps.{few, Turned, turn, advanced, Ready}
+use Rattle.index.specs.Values.{valuesIn}
+use Rattle.filler.specs.Steps.{Turned, turn, advanced, Ready}
 use Rattle.filler.specs.Ends.{ending, EndingFits}
-use Rattle.filler.specs.Write.{widthOf, Fillable, Blank, Prepared, Ended}
+use Rattle.filler.specs.Write.{widthOf, Fillable, Prepared, Ended}
 use Rattle.filler.proofs.Onward.{Given, Onward, Clean}
 use Rattle.filler.proofs.RamRun.{RamRun, ram-start, ram-ready, ram-turn, ram-ends}
 use Rattle.filler.proofs.RomRun.{RomRun, rom-start, rom-ready, rom-turn, rom-ends}

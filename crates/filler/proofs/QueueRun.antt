@@ -2,31 +2,31 @@
 --     queue-ready, queue-turn    an operation is possible, and after it the run is one operation further
 --     queue-ends      after all of them the elements left give the end rows
 -- Assumes nothing.
-use Prim.Native.Nat.{ℕ, zero, suc, _+_, _-_, _*_, _≤_, _<_}
+use Prim.Native.Nat.{ℕ, suc, _+_, _-_, _*_, _≤_, _<_}
 use native.Mathlib.Omega.{arith}
 use native.Mathlib.Decide.{ℕ-discrete}
-use mathlib.Core.Bool.{Bool, true, false, cond}
+use mathlib.Core.Bool.{Bool, true, false}
 use mathlib.Core.Logic.{_⊎_, inl, inr}
 use mathlib.Core.Path.{_≡_, refl, sym, ap, subst, _∙_}
 use mathlib.Core.List.{List, [], _∷_, _++_, map}
 use lib.Dec.{eqb}
 use lib.ListN.{length, getD, set, drop, length-set, length-append, length-drop, drop-of-length-le, List·getD-append}
 use lib.Seq.{sets, getD-set-same, getD-set-other, getD-append-seam, getD-drop}
-use borrow.Author.Tests.{eqb-true, eqb-false, eq-eqb, ne-eqb}
+use borrow.Author.Tests.{eqb-true, eqb-false}
 use Rattle.memory.specs.declared.Memory.the-variants.{Queue}
-use Rattle.memory.specs.declared.Op.the-variants.{Enqueue}
 use Rattle.memory.specs.declared.Row.{Row}
 use Rattle.memory.specs.Names.{opCode, isOp}
-use Rattle.memory.specs.Honest.{Input, filledRow, bare, endRow, queueFrom, operationsFilled}
+use Rattle.memory.specs.Honest.{filledRow, bare, endRow, queueFrom, operationsFilled}
 use Rattle.memory.specs.Filler.{inputsIn, rowNumbers}
 use Rattle.filler.specs.declared.steps.Cursor.{Cursor}
-use Rattle.filler.specs.Words.{opAt, guardAt, addrAt, valueAt, inputAt, copied, valuesIn}
-use Rattle.filler.specs.Steps.{few, Turn, made, enqueueTurn, enqueued, dequeueTurn, dequeued, queueTurn, queued, QueueReady}
+use Rattle.index.specs.Values.{valueAt, valuesIn}
+use Rattle.filler.specs.Words.{opAt, guardAt, addrAt, inputAt, copied}
+use Rattle.filler.specs.Steps.{Turn, made, enqueueTurn, enqueued, dequeueTurn, dequeued, queueTurn, queued, QueueReady}
 use Rattle.filler.specs.Ends.{cellEnds}
-use Rattle.filler.specs.Scan.{moved, leveled}
+use Rattle.filler.specs.Scan.{leveled}
 use Rattle.filler.proofs.Inputs.{inputs-count}
 use Rattle.filler.proofs.Forms.{is-coded}
-use Rattle.filler.proofs.Onward.{Given, Onward, onward-start, onward-next, onward-as, Clean, CleanTurn, clean-turn, Paired, form-queue, held-queue, copied-words}
+use Rattle.filler.proofs.Onward.{Given, Onward, onward-start, onward-next, onward-as, Clean, CleanTurn, clean-turn, form-queue, held-queue, copied-words}
 
 pub record QueueRun (w t : ℕ) (inits ops out₀ : List ℕ) (k : ℕ) (at : Cursor) (out s : List ℕ) : Type 0 where
   pub content : List ℕ

@@ -3,22 +3,22 @@
 --     ram-start       before the first access
 --     ram-ends        after all of them the scratch words give the end rows and range rows
 -- Assumes nothing.
-use Prim.Native.Nat.{ℕ, zero, suc, _+_, _-_, _*_, _≤_, _<_}
+use Prim.Native.Nat.{ℕ, suc, _+_, _-_, _*_, _≤_, _<_}
 use native.Mathlib.Omega.{arith}
 use native.Mathlib.Decide.{ℕ-discrete}
 use native.Mathlib.Numerals.{add-one}
-use mathlib.Core.Bool.{Bool, true, false, cond}
+use mathlib.Core.Bool.{cond}
 use mathlib.Core.Path.{_≡_, refl, sym, ap, subst, _∙_}
 use mathlib.Core.List.{List, [], _∷_, _++_, map}
 use lib.Dec.{eqb}
 use lib.ListN.{length, getD, set, drop, length-set, length-map, drop-of-length-le, List·getD-map}
 use lib.Seq.{sets, getD-set-same, getD-set-other}
 use Rattle.memory.specs.declared.Memory.the-variants.{Ram}
-use Rattle.memory.specs.declared.Row.{Row}
-use Rattle.memory.specs.Honest.{Input, Cell, cell, cellAt, filledRow, endRow, rangeRowsFrom, occurrences, ramAge, ramRow, ramCells, ramEnds, ramFrom, operationsFilled}
-use Rattle.memory.specs.Filler.{inputsIn, rowNumbers}
-use Rattle.filler.specs.Words.{opAt, guardAt, addrAt, valueAt, inputAt, copied, valuesIn}
-use Rattle.filler.specs.Steps.{few, counted, slotOf, ramSlot, ramTurn, RamReady}
+use Rattle.memory.specs.Honest.{Cell, cell, cellAt, filledRow, endRow, rangeRowsFrom, occurrences, ramAge, ramRow, ramCells, ramEnds, ramFrom, operationsFilled}
+use Rattle.memory.specs.Filler.{inputsIn}
+use Rattle.index.specs.Values.{valueAt, valuesIn}
+use Rattle.filler.specs.Words.{opAt, guardAt, addrAt, inputAt}
+use Rattle.filler.specs.Steps.{counted, ramTurn, RamReady}
 use Rattle.filler.specs.Ends.{cellEnds, ranges}
 use Rattle.filler.specs.Scan.{leveled}
 use Rattle.filler.proofs.Inputs.{inputs-count, values-count}

@@ -2,18 +2,18 @@
 --     rom-ready, rom-turn    a look is possible, and after it the run is one look further
 --     rom-ends        after all of them the counts give the end rows
 -- Assumes nothing.
-use Prim.Native.Nat.{ℕ, zero, suc, _+_, _-_, _*_, _≤_, _<_}
+use Prim.Native.Nat.{ℕ, suc, _+_, _*_, _≤_, _<_}
 use native.Mathlib.Omega.{arith}
 use mathlib.Core.Path.{_≡_, refl, sym, ap, subst, _∙_}
 use mathlib.Core.List.{List, [], _∷_}
 use lib.ListN.{length, getD, drop, length-set, drop-of-length-le}
 use lib.Seq.{sets}
 use Rattle.memory.specs.declared.Memory.the-variants.{Rom}
-use Rattle.memory.specs.declared.Row.{Row}
-use Rattle.memory.specs.Honest.{Input, filledRow, endRow, occurrences, romFrom, romEndsFrom, operationsFilled}
+use Rattle.memory.specs.Honest.{filledRow, endRow, occurrences, romFrom, romEndsFrom, operationsFilled}
 use Rattle.memory.specs.Filler.{inputsIn, rowNumbers}
-use Rattle.filler.specs.Words.{opAt, guardAt, addrAt, valueAt, inputAt, valuesIn}
-use Rattle.filler.specs.Steps.{few, counted, romTurn, RomReady}
+use Rattle.index.specs.Values.{valueAt, valuesIn}
+use Rattle.filler.specs.Words.{opAt, guardAt, addrAt, inputAt}
+use Rattle.filler.specs.Steps.{romTurn, RomReady}
 use Rattle.filler.specs.Ends.{valueEnds}
 use Rattle.filler.specs.Scan.{leveled}
 use Rattle.filler.proofs.Inputs.{inputs-count, values-at, values-count}

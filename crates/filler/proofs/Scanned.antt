@@ -3,12 +3,12 @@
 --     leveled-rise      a level rises by one at most
 --     inits-turn, scan-turn    the scan of what is left begins with the row there
 -- Assumes nothing.
-use Prim.Native.Nat.{ℕ, zero, suc, _+_, _-_, _*_, _≤_}
+use Prim.Native.Nat.{ℕ, suc, _+_, _-_, _*_, _≤_}
 use native.Mathlib.Omega.{arith}
 use mathlib.Core.Bool.{Bool, true, false, cond}
-use mathlib.Core.Path.{_≡_, refl, sym, ap, _∙_}
+use mathlib.Core.Path.{_≡_, refl, ap, _∙_}
 use mathlib.Core.List.{List, [], _∷_}
-use lib.Dec.{eqb, leb, ltb}
+use lib.Dec.{eqb}
 use lib.ListN.{length, drop}
 use Rattle.memory.specs.declared.Memory.{Memory}
 use Rattle.memory.specs.declared.Memory.the-variants.{Ram, Rom, Set, Stack, Queue}
@@ -16,9 +16,8 @@ use Rattle.memory.specs.declared.Phase.the-variants.{Operating}
 use Rattle.memory.specs.Names.{opCode}
 use Rattle.memory.specs.Bytes.{allBelow}
 use Rattle.memory.specs.Rows.{opsDue}
-use Rattle.memory.specs.Honest.{Input}
-use Rattle.memory.specs.Filler.{opCoded, inputsIn, inputFault, Placed, placed}
-use Rattle.filler.specs.Words.{opAt, guardAt, addrAt, valueAt, inputAt}
+use Rattle.memory.specs.Filler.{opCoded, inputsIn, inputFault, placed}
+use Rattle.filler.specs.Words.{opAt, guardAt, inputAt}
 use Rattle.filler.specs.Scan.{form, emptied, refusal, moved, leveled, faultAt, scanned, initFault, initsScanned}
 use Rattle.filler.proofs.Inputs.{inputs-cons}
 use Rattle.filler.proofs.Forms.{is-coded, input, operation-form}

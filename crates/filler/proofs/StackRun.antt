@@ -5,25 +5,25 @@
 -- Assumes nothing.
 use Prim.Native.Nat.{ℕ, zero, suc, _+_, _-_, _*_, _≤_, _<_}
 use native.Mathlib.Omega.{arith}
-use mathlib.Core.Bool.{Bool, true, false, cond}
+use mathlib.Core.Bool.{Bool, true, false}
 use mathlib.Core.Logic.{_⊎_, inl, inr}
 use mathlib.Core.Path.{_≡_, refl, sym, ap, subst, _∙_}
-use mathlib.Core.List.{List, [], _∷_, _++_, map}
+use mathlib.Core.List.{List, [], _∷_, _++_}
 use lib.Dec.{eqb}
 use lib.ListN.{length, getD, set, drop, length-set, length-drop, drop-of-length-le}
 use lib.Seq.{sets, getD-set-same, getD-set-other}
-use borrow.Author.Tests.{eqb-true, eqb-false, eq-eqb, ne-eqb}
+use borrow.Author.Tests.{eqb-true, eqb-false}
 use Rattle.memory.specs.declared.Memory.the-variants.{Stack}
-use Rattle.memory.specs.declared.Op.the-variants.{Push}
 use Rattle.memory.specs.declared.Row.{Row}
 use Rattle.memory.specs.Names.{opCode, isOp}
-use Rattle.memory.specs.Honest.{Input, Cell, cell, cellAt, topCell, filledRow, bare, endRow, rangeRowsFrom, occurrences, stackEnds, popRow, popTime as honestTime, stackFrom, operationsFilled}
+use Rattle.memory.specs.Honest.{Cell, cell, cellAt, topCell, filledRow, bare, endRow, rangeRowsFrom, occurrences, stackEnds, popRow, popTime as honestTime, stackFrom, operationsFilled}
 use Rattle.memory.specs.Filler.{inputsIn, rowNumbers}
 use Rattle.filler.specs.declared.steps.Cursor.{Cursor}
-use Rattle.filler.specs.Words.{opAt, guardAt, addrAt, valueAt, inputAt, copied, valuesIn}
-use Rattle.filler.specs.Steps.{few, Turn, made, counted, Countable, slotOf, popTime, pushTurn, pushed, PushReady, popTurn, popped, PopReady, stackTurn, stacked, StackReady}
+use Rattle.index.specs.Values.{valueAt, valuesIn}
+use Rattle.filler.specs.Words.{opAt, guardAt, addrAt, inputAt, copied}
+use Rattle.filler.specs.Steps.{Turn, made, counted, Countable, popTime, pushTurn, pushed, popTurn, popped, stackTurn, stacked, StackReady}
 use Rattle.filler.specs.Ends.{cellEnds, ranges}
-use Rattle.filler.specs.Scan.{moved, leveled}
+use Rattle.filler.specs.Scan.{leveled}
 use Rattle.filler.proofs.Inputs.{inputs-count}
 use Rattle.filler.proofs.Forms.{is-coded}
 use Rattle.filler.proofs.Onward.{Given, Onward, onward-start, onward-next, onward-as, Clean, CleanTurn, clean-turn, Paired, form-stack, held-stack, copied-words}

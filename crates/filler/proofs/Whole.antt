@@ -11,21 +11,20 @@ use native.Mathlib.Nat.{zero-add}
 use mathlib.Core.Bool.{Bool, true, false, cond, _&&_}
 use mathlib.Core.Option.{none, some}
 use mathlib.Core.Path.{_≡_, refl, sym, ap, _∙_}
-use mathlib.Core.List.{List, [], _∷_, _++_, map}
-use lib.Dec.{eqb, leb}
+use mathlib.Core.List.{List, _++_, map}
+use lib.Dec.{leb}
 use lib.ListN.{length, getD, take, drop, replicate, length-drop}
 use lib.Seq.{length-take-le}
 use borrow.Author.Tests.{eq-eqb, ne-eqb, leb-true, eqb-true, le-leb, lt-leb}
 use Rattle.field.specs.Field.{p}
 use Rattle.memory.specs.declared.Memory.{Memory}
 use Rattle.memory.specs.declared.Memory.the-variants.{Ram, Rom, Set, Stack, Queue}
-use Rattle.memory.specs.declared.Row.{Row}
 use Rattle.memory.specs.Rows.{limit, sized, allowed}
 use Rattle.memory.specs.Honest.{Input, filledRows}
-use Rattle.memory.specs.Filler.{inputsIn, rowNumbers, rowsFault, Placed, Filling, memoryCoded, room, turnedAway, rowRefused, filledWith, fillRows, fillMemory, fillOf}
+use Rattle.memory.specs.Filler.{inputsIn, rowNumbers, rowsFault, memoryCoded, room, turnedAway, rowRefused, filledWith, fillRows, fillMemory, fillOf}
 use Rattle.filler.specs.declared.Filled.the-variants.{Rows, Refused}
 use Rattle.filler.specs.Answer.{answerOf, placeOf, countOf, fillingOf}
-use Rattle.filler.specs.Words.{valuesIn, laid}
+use Rattle.filler.specs.Words.{laid}
 use Rattle.filler.specs.Steps.{few}
 use Rattle.filler.proofs.Inputs.{inputs-take, inputs-drop}
 use Rattle.filler.proofs.Laid.{part-lent}

@@ -9,7 +9,7 @@ use Rattle.memory.specs.declared.Memory.the-variants.{Ram, Rom, Set, Stack, Que
 use Rattle.memory.specs.declared.Row.{Row}
 use Rattle.memory.specs.Honest.{endRow, rangeRow}
 use Rattle.filler.specs.declared.steps.Cursor.{Cursor}
-use Rattle.filler.specs.Words.{valuesIn}
+use Rattle.index.specs.Values.{valuesIn}
 
 -- the end rows of so many cells: contents from word j on, times from word w + j on
 unfoldable pub cellEnds : ℕ → ℕ → ℕ → List ℕ → List Row

@@ -1,12 +1,11 @@
 -- The first fault of the input rows, as a scan finds it that keeps no content: of a ram and a rom the number of cells matters, of a stack and a queue the
 -- depth, of a set the init values. The number of cells, or the depth, is the level.
 -- Assumes nothing.
-use Prim.Native.Nat.{ℕ, zero, suc, _+_, _-_, _*_, _≤_}
-use mathlib.Core.Bool.{Bool, true, false, _&&_, cond}
+use Prim.Native.Nat.{ℕ, suc, _+_, _-_}
+use mathlib.Core.Bool.{Bool, true, _&&_, cond}
 use mathlib.Core.Path.{_≡_}
 use mathlib.Core.List.{List, [], _∷_}
 use lib.Dec.{eqb, leb, ltb}
-use lib.ListN.{length}
 use Rattle.memory.specs.declared.Memory.{Memory}
 use Rattle.memory.specs.declared.Memory.the-variants.{Ram, Rom, Set, Stack, Queue}
 use Rattle.memory.specs.declared.Op.the-variants.{Init}
@@ -16,6 +15,7 @@ use Rattle.memory.specs.Rows.{opsDue}
 use Rattle.memory.specs.Names.{opCode}
 use Rattle.memory.specs.Honest.{Input}
 use Rattle.memory.specs.Filler.{inputFault, Placed, placed}
+use Rattle.filler.specs.Words.{Treed}
 
 -- 5 and 6 of a row with one op due
 abbrev pub single : Bool → Bool → ℕ
@@ -41,6 +41,10 @@ form Queue o g a v = paired (eqb o 6) (eqb o 7) g a v
 -- 12: an executed pop or dequeue at depth 0
 abbrev pub emptied : Bool → ℕ → ℕ → ℕ
 emptied up g level = cond up 0 (cond (eqb g 1) (cond (ltb 0 level) 0 12) 0)
+
+-- the words in which a set's elements are looked up: its search tree
+abbrev pub Linked : Memory → ℕ → List ℕ → List ℕ → Type 0
+Linked m n inits links = m ≡ Set → Treed n inits links
 
 -- 11, 12 and 13, at a level
 unfoldable pub refusal : Memory → List ℕ → ℕ → ℕ → ℕ → ℕ → ℕ → ℕ

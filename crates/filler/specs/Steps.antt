@@ -1,18 +1,19 @@
 -- What one operation of each memory does to the words: the row that it writes, the scratch words after it, and the cursor after it.
 -- Of w cells the contents lie in the scratch words from 0 on, the times from w on, and the lookups of each age from 2w on, of age 1 first. A rom and
--- a set keep no cells: the lookups of each key lie from w on.
+-- a set keep no cells: the lookups of each key lie from w on. A set keeps its search tree in the first w words.
 -- Assumes nothing.
 use Prim.Native.Nat.{ℕ, _+_, _-_, _*_, _≤_, _<_}
-use mathlib.Core.Bool.{Bool, true, false, cond}
+use mathlib.Core.Bool.{cond}
 use mathlib.Core.Path.{_≡_}
 use mathlib.Core.List.{List}
 use lib.Dec.{eqb}
-use lib.ListN.{length, getD, set}
+use lib.ListN.{length, getD, set, take}
 use lib.Seq.{sets}
 use Rattle.memory.specs.declared.Memory.{Memory}
 use Rattle.memory.specs.declared.Memory.the-variants.{Ram, Rom, Set, Stack, Queue}
 use Rattle.filler.specs.declared.steps.Cursor.{Cursor}
-use Rattle.filler.specs.Words.{opAt, guardAt, addrAt, valueAt, copied, valuesIn, firstAt}
+use Rattle.index.specs.Values.{valueAt, valuesIn, firstAt}
+use Rattle.filler.specs.Words.{opAt, guardAt, addrAt, copied, Treed}
 
 -- a count of lookups is below this
 abbrev pub few : ℕ
@@ -81,7 +82,7 @@ unfoldable pub setTurn : ℕ → ℕ → List ℕ → List ℕ → List ℕ → 
 setTurn w k inits ops s = made (copied ops k 0 0 (getD s (w + setKey k inits ops) 0)) (counted s (w + setKey k inits ops))
 
 pub record SetReady (w k : ℕ) (inits ops s : List ℕ) : Type 0 where
-  pub held : 4 * w ≡ length inits
+  pub treed : Treed w inits (take w s)
   pub countable : Countable s (w + setKey k inits ops)
 
 -- stack

@@ -4,15 +4,16 @@ use Prim.Native.Nat.{ℕ, _+_, _*_, _≤_, _<_}
 use mathlib.Core.Bool.{true}
 use mathlib.Core.Path.{_≡_}
 use mathlib.Core.List.{List}
-use lib.ListN.{length, getD, drop}
+use lib.ListN.{length, getD, take, drop}
 use Rattle.field.specs.Field.{p}
 use Rattle.memory.specs.declared.Memory.{Memory}
 use Rattle.memory.specs.declared.Memory.the-variants.{Ram, Rom, Set, Stack, Queue}
 use Rattle.memory.specs.Rows.{sized}
 use Rattle.memory.specs.Honest.{operationsFilled}
-use Rattle.memory.specs.Filler.{inputsIn, room}
+use Rattle.memory.specs.Filler.{inputsIn}
 use Rattle.filler.specs.declared.steps.Cursor.{Cursor}
-use Rattle.filler.specs.Words.{valuesIn, laid}
+use Rattle.index.specs.Values.{valuesIn}
+use Rattle.filler.specs.Words.{laid, Treed}
 use Rattle.filler.specs.Steps.{few}
 use Rattle.filler.specs.Ends.{ending, EndingFits}
 use Rattle.filler.specs.Scan.{scanned}
@@ -45,11 +46,16 @@ pub record Filled-in (n : ℕ) (values s : List ℕ) : Type 0 where
   pub first : (j : ℕ) → j < n → getD s j 0 ≡ getD values j 0
   pub others : (j : ℕ) → getD s (n + j) 0 ≡ 0
 
+-- the first n scratch words hold the search tree of a set, and the others are 0
+pub record Planted (n : ℕ) (inits s : List ℕ) : Type 0 where
+  pub treed : Treed n inits (take n s)
+  pub others : (j : ℕ) → getD s (n + j) 0 ≡ 0
+
 -- the scratch words before the first operation
 abbrev pub Prepared : Memory → ℕ → List ℕ → List ℕ → Type 0
 Prepared Ram n inits s = Filled-in n (valuesIn inits) s
 Prepared Rom n inits s = Blank s
-Prepared Set n inits s = Blank s
+Prepared Set n inits s = Planted n inits s
 Prepared Stack n inits s = Blank s
 Prepared Queue n inits s = Blank s
 

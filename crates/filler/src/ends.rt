@@ -6,7 +6,8 @@ ghost use mathlib.Core.List.{_++_};
 ghost use mathlib.Core.Path.{_≡_};
 ghost use Prim.Native.Nat.{_+_, _*_};
 ghost use lib.ListN.{length};
-ghost use Rattle.filler.specs.Words.{laid, valuesIn};
+ghost use Rattle.index.specs.Values.{valuesIn};
+ghost use Rattle.filler.specs.Words.{laid};
 ghost use Rattle.filler.specs.Ends.{cellEnds, CellsFit, valueEnds, ValuesFit, ranges, LookupsFit, CellsAndRangesFit, ending, EndingFits};
 
 const END: u32 = 8;

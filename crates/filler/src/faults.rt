@@ -1,21 +1,20 @@
 // The first fault of the input rows. Nothing is written: of a ram and a rom the number of cells matters, of a stack and a queue the depth, of a set the
 // init values. The number of cells, or the depth, is the level.
-use super::steps;
 use field::Field;
 use memory::Memory;
-ghost use mathlib.Core.Bool.{true, false, _&&_, cond};
+ghost use mathlib.Core.Bool.{true, false};
 ghost use mathlib.Core.List.{[], _∷_};
 ghost use mathlib.Core.Path.{_≡_};
-ghost use Prim.Native.Nat.{suc, _+_, _*_, _≤_};
-ghost use lib.Dec.{eqb};
+ghost use Prim.Native.Nat.{_+_, _*_, _≤_};
 ghost use lib.ListN.{length};
 ghost use Rattle.field.specs.Field.{p};
 ghost use Rattle.memory.specs.Bytes.{allBelow};
 ghost use Rattle.memory.specs.Filler.{inputsIn, rowsFault};
 ghost use Rattle.memory.specs.Rows.{sized};
-ghost use Rattle.filler.specs.Words.{inputAt, valuesIn};
+ghost use Rattle.index.specs.Values.{valuesIn};
+ghost use Rattle.filler.specs.Words.{inputAt, Treed};
 ghost use Rattle.filler.specs.Steps.{few};
-ghost use Rattle.filler.specs.Scan.{single, paired, initForm, form, emptied, refusal, moved, leveled, faultAt, scanned, initFault, initsScanned};
+ghost use Rattle.filler.specs.Scan.{single, paired, form, emptied, Linked, refusal, moved, leveled, faultAt, scanned, initFault, initsScanned};
 
 // The number and the place of a fault; 0 and 0 where there is none.
 pub struct Fault {
@@ -102,11 +101,11 @@ fn outside(addr: u32, level: usize) -> u32
 }
 
 // 13, where a value is not in the set.
-fn missing(n: usize, inits: &[u32], value: u32) -> u32
-    requires { ⌜ 4 * n ≡ length (now inits) ⌝ }
+fn missing(n: usize, inits: &[u32], links: &[u32], value: u32) -> u32
+    requires { ⌜ Treed n (now inits) (now links) ⌝ }
     ensures { λ r. ⌜ r ≡ refusal Memory.Set (valuesIn (now (inits .entry))) 0 0 0 0 value ⌝ }
 {
-    if steps::find(n, inits, value) < n {
+    if index::find(inits, links, value) < n {
         0
     } else {
         13
@@ -119,18 +118,19 @@ fn refusal(
     n: usize,
     level: usize,
     inits: &[u32],
+    links: &[u32],
     op: u32,
     guard: u32,
     addr: u32,
     value: u32,
 ) -> u32
-    requires { ⌜ 4 * n ≡ length (now inits) ⌝ }
+    requires { ⌜ Linked m n (now inits) (now links) ⌝ }
     ensures { λ r. ⌜ r ≡ refusal m (valuesIn (now (inits .entry))) level op guard addr value ⌝ }
 {
     match m {
         Memory::Ram => outside(addr, level),
         Memory::Rom => outside(addr, level),
-        Memory::Set => missing(n, inits, value),
+        Memory::Set => missing(n, inits, links, value),
         Memory::Stack => emptied(op == PUSH, guard, level),
         Memory::Queue => emptied(op == ENQUEUE, guard, level),
     }
@@ -180,8 +180,17 @@ fn init_fault(k: usize, inits: &[u32]) -> u32
 }
 
 // The fault of an operation at a level: 3, 5, 6, then 11, 12, 13.
-fn operation_fault(m: Memory, n: usize, level: usize, k: usize, inits: &[u32], ops: &[u32]) -> u32
-    requires { ⌜ (4 * n ≡ length (now inits)) × (4 * k + 4 ≤ length (now ops)) ⌝ }
+fn operation_fault(
+    m: Memory,
+    n: usize,
+    level: usize,
+    k: usize,
+    inits: &[u32],
+    links: &[u32],
+    ops: &[u32],
+) -> u32
+    requires { ⌜ 4 * k + 4 ≤ length (now ops) ⌝ }
+    requires { ⌜ Linked m n (now inits) (now links) ⌝ }
     ensures { λ r. ⌜ r ≡ faultAt p m (valuesIn (now (inits .entry))) level (inputAt (now (ops .entry)) k) ⌝ }
 {
     let from = 4 * k;
@@ -194,7 +203,7 @@ fn operation_fault(m: Memory, n: usize, level: usize, k: usize, inits: &[u32], o
         if fault != 0 {
             return fault;
         }
-        refusal(m, n, level, inits, op, guard, addr, value)
+        refusal(m, n, level, inits, links, op, guard, addr, value)
     } else {
         3
     }
@@ -223,14 +232,22 @@ pub(crate) fn scan_inits(n: usize, inits: &[u32]) -> Fault
 }
 
 // The first fault of the operations.
-pub(crate) fn scan_operations(m: Memory, n: usize, t: usize, inits: &[u32], ops: &[u32]) -> Fault
-    requires { ⌜ (4 * n ≡ length (now inits)) × (4 * t ≡ length (now ops)) × (n ≤ few) × (t ≤ few) ⌝ }
+pub(crate) fn scan_operations(
+    m: Memory,
+    n: usize,
+    t: usize,
+    inits: &[u32],
+    links: &[u32],
+    ops: &[u32],
+) -> Fault
+    requires { ⌜ (4 * t ≡ length (now ops)) × (n ≤ few) × (t ≤ few) ⌝ }
+    requires { ⌜ Linked m n (now inits) (now links) ⌝ }
     ensures { λ r. ⌜ (r .number ≡ scanned p m (valuesIn (now (inits .entry))) n (n + 1) (inputsIn (now (ops .entry))) .number) × (r .place ≡ scanned p m (valuesIn (now (inits .entry))) n (n + 1) (inputsIn (now (ops .entry))) .place) ⌝ }
 {
     let mut level = n;
     let mut k = 0;
     while k < t {
-        let number = operation_fault(m, n, level, k, inits, ops);
+        let number = operation_fault(m, n, level, k, inits, links, ops);
         if number != 0 {
             return Fault {
                 number,
@@ -247,9 +264,17 @@ pub(crate) fn scan_operations(m: Memory, n: usize, t: usize, inits: &[u32], ops:
 }
 
 // The first fault of all rows.
-pub(crate) fn scan(m: Memory, n: usize, t: usize, inits: &[u32], ops: &[u32]) -> Fault
+pub(crate) fn scan(
+    m: Memory,
+    n: usize,
+    t: usize,
+    inits: &[u32],
+    links: &[u32],
+    ops: &[u32],
+) -> Fault
     requires { ⌜ (4 * n ≡ length (now inits)) × (4 * t ≡ length (now ops)) × (n ≤ few) × (t ≤ few) ⌝ }
     requires { ⌜ sized m n ≡ true ⌝ }
+    requires { ⌜ Linked m n (now inits) (now links) ⌝ }
     ensures number { λ r. ⌜ r .number ≡ rowsFault p m (valuesIn (now (inits .entry))) 1 (inputsIn (now (inits .entry))) (inputsIn (now (ops .entry))) .number ⌝ }
     ensures place { λ r. ⌜ r .place ≡ rowsFault p m (valuesIn (now (inits .entry))) 1 (inputsIn (now (inits .entry))) (inputsIn (now (ops .entry))) .place ⌝ }
 {
@@ -257,5 +282,5 @@ pub(crate) fn scan(m: Memory, n: usize, t: usize, inits: &[u32], ops: &[u32]) ->
     if first.number != 0 {
         return first;
     }
-    scan_operations(m, n, t, inits, ops)
+    scan_operations(m, n, t, inits, links, ops)
 }

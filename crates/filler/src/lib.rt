@@ -7,19 +7,18 @@ mod rows;
 mod steps;
 mod write;
 
-ghost use mathlib.Core.Bool.{_&&_};
 ghost use mathlib.Core.List.{map};
 ghost use mathlib.Core.Path.{_≡_};
 ghost use Prim.Native.Nat.{_+_, _*_, _≤_};
 ghost use lib.ListN.{length, take, drop, replicate};
 ghost use Rattle.field.specs.Field.{p};
-ghost use Rattle.memory.specs.Rows.{sized, allowed};
+ghost use Rattle.memory.specs.Rows.{sized};
 ghost use Rattle.memory.specs.Honest.{bare, filledRows};
 ghost use Rattle.memory.specs.Filler.{inputsIn, memoryCoded, fillRows, fillOf};
 ghost use Rattle.filler.specs.Answer.{fillingOf, knownOf, Roomy};
-ghost use Rattle.filler.specs.Words.{laid, valuesIn};
+ghost use Rattle.filler.specs.Words.{laid};
 ghost use Rattle.filler.specs.Scan.{initsScanned};
-ghost use Rattle.filler.specs.Write.{Fillable};
+ghost use Rattle.filler.specs.Write.{Fillable, Prepared};
 
 // What a fill comes to: how many rows it wrote, or the number and the place of its refusal.
 pub enum Filled {
@@ -87,11 +86,11 @@ fn write_rows(
     requires { ⌜ initsScanned p 1 (inputsIn (now inits)) .number ≡ 0 ⌝ }
     requires { ⌜ 7 * n ≤ length (now out) ⌝ }
     requires { ⌜ Fillable m n t (now inits) (now ops) (drop (7 * n) (now out)) (now scratch) ⌝ }
+    requires { ⌜ Prepared m n (now inits) (now scratch) ⌝ }
     ensures rows { λ _. ⌜ now (out .exit) ≡ laid (now (out .entry)) 0 (filledRows m t (inputsIn (now (inits .entry))) (inputsIn (now (ops .entry)))) ⌝ }
     ensures blank { λ _. ⌜ now (scratch .exit) ≡ replicate (length (now (scratch .entry))) 0 ⌝ }
     ensures count { λ r. ⌜ r ≡ length (filledRows m t (inputsIn (now (inits .entry))) (inputsIn (now (ops .entry)))) ⌝ }
 {
-    rows::clear(scratch);
     copy_inits(n, inits, out);
     let from = 7 * n;
     let more = write::rows_after(m, n, t, inits, ops, &mut out[from..], scratch);
@@ -114,7 +113,9 @@ fn fill_rows(
     let from = 4 * n;
     let inits = &rows[..from];
     let ops = &rows[from..];
-    let fault = faults::scan(m, n, t, inits, ops);
+    rows::clear(scratch);
+    write::prepare(m, n, inits, scratch);
+    let fault = faults::scan(m, n, t, inits, &scratch[..n], ops);
     if fault.number != 0 {
         rows::clear(out);
         rows::clear(scratch);

@@ -1,7 +1,7 @@
 // One operation of each memory: its row is written, and the scratch words come to hold the memory after it.
 //
 // Of w cells the contents lie in the scratch words from 0 on, the times from w on, and the lookups of each age from 2w on, of age 1 first. A rom and
-// a set keep no cells: the lookups of each key lie from w on.
+// a set keep no cells: the lookups of each key lie from w on. A set keeps its search tree in the first w words.
 use super::rows;
 use memory::Memory;
 ghost use mathlib.Core.Bool.{cond};
@@ -9,7 +9,7 @@ ghost use mathlib.Core.Path.{_≡_};
 ghost use Prim.Native.Nat.{_+_, _*_, _<_};
 ghost use lib.Dec.{eqb};
 ghost use lib.ListN.{length, getD, set};
-ghost use Rattle.filler.specs.Words.{RowFits, valuesIn, firstAt};
+ghost use Rattle.filler.specs.Words.{RowFits};
 ghost use Rattle.filler.specs.Steps.{Turned, few, ramTurn, RamReady, romTurn, RomReady, setTurn, SetReady, pushTurn, pushed, PushReady, popTurn, popped, PopReady, stackTurn, stacked, StackReady, enqueueTurn, enqueued, EnqueueReady, dequeueTurn, dequeued, DequeueReady, queueTurn, queued, QueueReady, turn, advanced, Ready};
 
 // The clock, and where the cells begin and end that a stack or a queue holds.
@@ -39,21 +39,6 @@ fn chosen(guard: u32, value: u32, old: u32) -> u32
     ensures { λ r. ⌜ r ≡ cond (eqb guard 1) value old ⌝ }
 {
     if guard == 1 { value } else { old }
-}
-
-// The place of the first init value that equals `value`, or their number.
-pub fn find(n: usize, inits: &[u32], value: u32) -> usize
-    requires { ⌜ 4 * n ≡ length (now inits) ⌝ }
-    ensures { λ r. ⌜ r ≡ firstAt value (valuesIn (now (inits .entry))) ⌝ }
-{
-    let mut j = 0;
-    while j < n {
-        if inits[4 * j + 3] == value {
-            return j;
-        }
-        j += 1;
-    }
-    j
 }
 
 // An access at a clock.
@@ -86,12 +71,12 @@ fn rom(w: usize, k: usize, inits: &[u32], ops: &[u32], out: &mut [u32], scratch:
 }
 
 // A member: "equal set elements give all lookups to the first".
-fn set(w: usize, k: usize, inits: &[u32], ops: &[u32], out: &mut [u32], scratch: &mut [u32])
+fn member(w: usize, k: usize, inits: &[u32], ops: &[u32], out: &mut [u32], scratch: &mut [u32])
     requires { ⌜ RowFits k (now ops) (now out) ⌝ }
     requires { ⌜ SetReady w k (now inits) (now ops) (now scratch) ⌝ }
     ensures { λ _. ⌜ Turned k (setTurn w k (now (inits .entry)) (now (ops .entry)) (now (scratch .entry))) (now (out .entry)) (now (out .exit)) (now (scratch .exit)) ⌝ }
 {
-    let key = find(w, inits, ops[4 * k + 3]);
+    let key = index::find(inits, &scratch[..w], ops[4 * k + 3]);
     let version = looked(w + key, scratch);
     rows::copy(k, ops, 0, 0, version, out);
 }
@@ -247,7 +232,7 @@ pub fn step(
             at
         }
         Memory::Set => {
-            set(w, k, inits, ops, out, scratch);
+            member(w, k, inits, ops, out, scratch);
             at
         }
         Memory::Stack => stack(w, k, at, ops, out, scratch),

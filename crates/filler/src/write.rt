@@ -8,9 +8,10 @@ ghost use Prim.Native.Nat.{_+_, _*_, _≤_};
 ghost use lib.ListN.{length};
 ghost use Rattle.memory.specs.Filler.{inputsIn};
 ghost use Rattle.memory.specs.Honest.{operationsFilled};
-ghost use Rattle.filler.specs.Words.{valuesIn, laid};
+ghost use Rattle.index.specs.Values.{valuesIn};
+ghost use Rattle.filler.specs.Words.{laid};
 ghost use Rattle.filler.specs.Steps.{few};
-ghost use Rattle.filler.specs.Write.{widthOf, Fillable, Blank, Filled-in, Prepared, Ended};
+ghost use Rattle.filler.specs.Write.{widthOf, Fillable, Blank, Filled-in, Planted, Prepared, Ended};
 
 // How many cells the scratch words hold.
 fn width(m: Memory, n: usize, t: usize) -> usize
@@ -38,16 +39,25 @@ fn load(n: usize, inits: &[u32], scratch: &mut [u32])
     }
 }
 
+// The search tree over the elements of a set, in the first n words.
+fn plant(n: usize, inits: &[u32], scratch: &mut [u32])
+    requires { ⌜ (4 * n ≡ length (now inits)) × (n ≤ length (now scratch)) × (n ≤ few) ⌝ }
+    requires { ⌜ Blank (now scratch) ⌝ }
+    ensures { λ _. ⌜ Planted n (now (inits .entry)) (now (scratch .exit)) ⌝ }
+{
+    index::grow(inits, &mut scratch[..n]);
+}
+
 // The scratch words before the first operation.
-fn prepare(m: Memory, n: usize, inits: &[u32], scratch: &mut [u32])
-    requires { ⌜ (4 * n ≡ length (now inits)) × (n ≤ length (now scratch)) ⌝ }
+pub fn prepare(m: Memory, n: usize, inits: &[u32], scratch: &mut [u32])
+    requires { ⌜ (4 * n ≡ length (now inits)) × (n ≤ length (now scratch)) × (n ≤ few) ⌝ }
     requires { ⌜ Blank (now scratch) ⌝ }
     ensures { λ _. ⌜ Prepared m n (now (inits .entry)) (now (scratch .exit)) ⌝ }
 {
     match m {
         Memory::Ram => load(n, inits, scratch),
         Memory::Rom => {}
-        Memory::Set => {}
+        Memory::Set => plant(n, inits, scratch),
         Memory::Stack => {}
         Memory::Queue => {}
     }
@@ -92,12 +102,11 @@ pub fn rows_after(
     scratch: &mut [u32],
 ) -> usize
     requires { ⌜ Fillable m n t (now inits) (now ops) (now out) (now scratch) ⌝ }
-    requires { ⌜ Blank (now scratch) ⌝ }
+    requires { ⌜ Prepared m n (now inits) (now scratch) ⌝ }
     ensures rows { λ _. ⌜ now (out .exit) ≡ laid (now (out .entry)) 0 (operationsFilled m t (valuesIn (now (inits .entry))) (inputsIn (now (ops .entry)))) ⌝ }
     ensures count { λ r. ⌜ r ≡ length (operationsFilled m t (valuesIn (now (inits .entry))) (inputsIn (now (ops .entry)))) ⌝ }
     ensures room { λ r. ⌜ 7 * r ≤ length (now (out .entry)) ⌝ }
 {
-    prepare(m, n, inits, scratch);
     let at = operations(m, n, t, inits, ops, out, scratch);
     let from = 7 * t;
     let w = width(m, n, t);

@@ -90,9 +90,61 @@ fn refused() {
     );
 }
 
+// A set with equal elements, looked up more than once: the first of equal elements gets all lookups.
+fn equal_elements() {
+    let mut out = [7u32; 154];
+    let mut scratch = [9u32; 22];
+    case(
+        2,
+        5,
+        4,
+        &[
+            0,
+            0,
+            0,
+            4,
+            0,
+            0,
+            0,
+            6,
+            0,
+            0,
+            0,
+            4,
+            0,
+            0,
+            0,
+            12,
+            0,
+            0,
+            0,
+            5,
+            3,
+            0,
+            0,
+            12,
+            3,
+            0,
+            0,
+            4,
+            3,
+            0,
+            0,
+            6,
+            3,
+            0,
+            0,
+            4,
+        ],
+        &mut out,
+        &mut scratch,
+    );
+}
+
 fn main() {
     too_short();
     turned_away();
     dirty();
     refused();
+    equal_elements();
 }

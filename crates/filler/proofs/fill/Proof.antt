@@ -1,11 +1,7 @@
 -- `filler::fill` meets its contract.
 -- Assumes nothing.
-use Prim.Native.Nat.{ℕ, _+_, _*_, _<_, _≤_}
-use native.Mathlib.Omega.{arith}
-use mathlib.Core.Path.{_≡_, sym, ap, _∙_}
-use mathlib.Core.Bool.{true, false}
+use mathlib.Core.Path.{sym, ap, _∙_}
 use borrow.Author.Tests.{not-true, not-false}
-use lib.ListN.{length}
 use Rattle.memory.specs.Rows.{sized}
 use Rattle.memory.specs.Filler.{room}
 use Rattle.filler.specs.Answer.{knownOf}

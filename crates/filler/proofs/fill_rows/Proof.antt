@@ -1,16 +1,18 @@
 -- `filler::fill_rows` meets its contract.
 -- Assumes nothing.
-use Prim.Native.Nat.{ℕ, _+_, _*_, _≤_}
+use Prim.Native.Nat.{ℕ, _*_}
 use native.Mathlib.Omega.{arith}
 use mathlib.Core.List.{List}
 use mathlib.Core.Path.{_≡_, sym, ap, _∙_}
-use lib.ListN.{length, drop, length-drop}
+use lib.ListN.{length, getD, replicate, length-drop}
+use lib.Seq.{length-take-le}
 use Rattle.field.specs.Field.{p}
 use Rattle.memory.specs.Filler.{inputsIn, room}
-use Rattle.filler.specs.Words.{valuesIn}
+use Rattle.index.specs.Values.{valuesIn}
 use Rattle.filler.proofs.Inputs.{inputs-count, values-count}
 use Rattle.filler.proofs.FirstFault.{clean-inits, clean-operations}
-use Rattle.filler.proofs.Whole.{sized-few, allowed-size, allowed-count, refused-is, filled-is, initWords, opWords, init-words-count, op-words-count, parts-filled}
+use Rattle.filler.proofs.Planted.{prepared-treed}
+use Rattle.filler.proofs.Whole.{blank-all, sized-few, allowed-size, allowed-count, refused-is, filled-is, initWords, opWords, init-words-count, op-words-count, parts-filled}
 use borrow.Author.Needs.{needs}
 use Rattle.filler.proofs.fill_rows.Statement.{statement}
 use Rattle.filler.proofs.fill_rows.Tie as tie
@@ -33,23 +35,50 @@ part-ops-start c = search needs
 part-ops-end : tie.Need-part-ops-end
 part-ops-end c = search needs
 
-scan-requires : tie.Need-scan-requires
-scan-requires c κs = let at = c .before .before .before .before .before .args in
-    let size = allowed-size (at .m) (at .n) (at .t) (c .before .before .before .before .before .pre .proper) in (
-      (
-        init-words-count (at .rows .now) (at .n) (at .t) (c .before .before .before .before .before .pre .all),
-        op-words-count (at .rows .now) (at .n) (at .t) (c .before .before .before .before .before .pre .all),
-        sized-few (at .m) (at .n) size,
-        allowed-count (at .m) (at .n) (at .t) (c .before .before .before .before .before .pre .proper),
-      ),
-      size,
-    )
-
 clear-requires : tie.Need-clear-requires
 clear-requires c κs = search needs
 
+prepare-requires : tie.Need-prepare-requires
+unfolding room
+prepare-requires c κs = let at = c .before .before .before .before .before .before .before .before .before .before .args in (
+  (
+    init-words-count (at .rows .now) (at .n) (at .t) (c .before .before .before .before .before .before .before .before .before .before .pre .all),
+    omega (arith, c .before .before .before .clear .kept, c .before .before .before .before .before .before .before .before .before .before .pre .scratch-room),
+    sized-few (at .m) (at .n) (allowed-size (at .m) (at .n) (at .t) (c .before .before .before .before .before .before .before .before .before .before .pre .proper)),
+  ),
+  (λ j. ap (λ (s : List ℕ). getD s j 0) (c .before .before .before .clear .ensures) ∙ blank-all (length (at .scratch .now)) j),
+)
+
+slice-reshare-prefix-scan : tie.Need-slice-reshare-prefix-scan
+unfolding room
+slice-reshare-prefix-scan c = omega (arith, c .before .before .prepare .kept, c .before .before .before .before .before .before .clear .kept, c .before .before .before .before .before .before .before .before .before .before .before .before .before .pre .scratch-room)
+
+slice-aggregate-scan : tie.Need-slice-aggregate-scan
+unfolding room
+slice-aggregate-scan c = sym (length-take-le (c .before .before .before .before .before .before .before .before .before .before .before .before .before .before .args .n) _ (omega (arith, c .before .before .before .prepare .kept, c .before .before .before .before .before .before .before .clear .kept, c .before .before .before .before .before .before .before .before .before .before .before .before .before .before .pre .scratch-room)))
+
+scan-requires : tie.Need-scan-requires
+scan-requires c κs = let at = c .before .before .before .before .before .before .before .before .before .before .before .before .before .before .args in
+    let rows = at .rows .now in
+    let all = c .before .before .before .before .before .before .before .before .before .before .before .before .before .before .pre .all in
+    let proper = c .before .before .before .before .before .before .before .before .before .before .before .before .before .before .pre .proper in
+    let size = allowed-size (at .m) (at .n) (at .t) proper in
+    let inits = initWords rows (at .n) (at .t) all in
+    let ops = opWords rows (at .n) (at .t) all in (
+      (
+        init-words-count rows (at .n) (at .t) all,
+        op-words-count rows (at .n) (at .t) all,
+        sized-few (at .m) (at .n) size,
+        allowed-count (at .m) (at .n) (at .t) proper,
+      ),
+      (size, prepared-treed (at .m) (at .n) inits _ (c .before .before .before .prepare .ensures)),
+    )
+
 clear-requires-2 : tie.Need-clear-requires-2
 clear-requires-2 c κs = search needs
+
+clear-requires-3 : tie.Need-clear-requires-3
+clear-requires-3 c κs = search needs
 
 same-length : tie.Need-same-length
 same-length c = search needs
@@ -59,36 +88,47 @@ same-length-2 c = search needs
 
 returns : tie.Need-returns
 unfolding valuesIn
-returns c = let at = c .before .before .before .before .before .before .before .before .before .before .before .before .before .before .before .before .args in
+returns c = let at = c .before .before .before .before .before .before .before .before .before .before .before .before .before .before .before .before .before .before .before .before .before .before .before .before .before .args in
     let rows = at .rows .now in
-    refused-is (at .m) (at .t) (inputsIn (initWords rows (at .n) (at .t) (c .before .before .before .before .before .before .before .before .before .before .before .before .before .before .before .before .pre .all))) (inputsIn (opWords rows (at .n) (at .t) (c .before .before .before .before .before .before .before .before .before .before .before .before .before .before .before .before .pre .all))) (at .out .now) (at .scratch .now) _ _ (c .before .before .before .before .before .before .before .before .before .before .scan .result .number) (c .before .before .before .before .before .before .before .before .before .before .scan .result .place)
-    (c .before .before .before .before .before .before .before .before .before .before .scan .ensures .0) (c .before .before .before .before .before .before .before .before .before .before .scan .ensures .1) (c .before .before .before .before .before .before .before .before .if1 .taken) (c .before .before .before .before .before .before .clear .ensures) (c .before .before .clear2 .ensures)
-    ∙ parts-filled rows (at .n) (at .t) (c .before .before .before .before .before .before .before .before .before .before .before .before .before .before .before .before .pre .all) (at .m) (at .out .now) (at .scratch .now)
+    let all = c .before .before .before .before .before .before .before .before .before .before .before .before .before .before .before .before .before .before .before .before .before .before .before .before .before .pre .all in
+    let proper = c .before .before .before .before .before .before .before .before .before .before .before .before .before .before .before .before .before .before .before .before .before .before .before .before .before .pre .proper in
+    let size = allowed-size (at .m) (at .n) (at .t) proper in
+    let inits = initWords rows (at .n) (at .t) all in
+    let ops = opWords rows (at .n) (at .t) all in
+    let long : length (c .before .before .before .before .before .before .before .before .before .before .before .before .before .before .prepare .last .1 .1 .1 .0) ≡ length (at .scratch .now) = omega (arith, c .before .before .before .before .before .before .before .before .before .before .before .before .before .before .prepare .kept, c .before .before .before .before .before .before .before .before .before .before .before .before .before .before .before .before .before .before .clear .kept) in
+    refused-is (at .m) (at .t) (inputsIn inits) (inputsIn ops) (at .out .now) (at .scratch .now) _ _ (c .before .before .before .before .before .before .before .before .before .before .scan .result .number) (c .before .before .before .before .before .before .before .before .before .before .scan .result .place)
+    (c .before .before .before .before .before .before .before .before .before .before .scan .ensures .0) (c .before .before .before .before .before .before .before .before .before .before .scan .ensures .1) (c .before .before .before .before .before .before .before .before .if1 .taken) (c .before .before .before .before .before .before .clear2 .ensures) (c .before .before .clear3 .ensures ∙ ap (λ (k : ℕ). replicate k 0) long)
+    ∙ parts-filled rows (at .n) (at .t) all (at .m) (at .out .now) (at .scratch .now)
 
 write-rows-requires : tie.Need-write-rows-requires
 unfolding room
-write-rows-requires c κs = let at = c .before .before .before .before .before .before .before .before .before .before .args in
+write-rows-requires c κs = let at = c .before .before .before .before .before .before .before .before .before .before .before .before .before .before .before .before .before .before .before .args in
     let rows = at .rows .now in
-    let inits = initWords rows (at .n) (at .t) (c .before .before .before .before .before .before .before .before .before .before .pre .all) in
-    let ops = opWords rows (at .n) (at .t) (c .before .before .before .before .before .before .before .before .before .before .pre .all) in
-    let starting = init-words-count rows (at .n) (at .t) (c .before .before .before .before .before .before .before .before .before .before .pre .all) in
-    let size = allowed-size (at .m) (at .n) (at .t) (c .before .before .before .before .before .before .before .before .before .before .pre .proper) in
+    let all = c .before .before .before .before .before .before .before .before .before .before .before .before .before .before .before .before .before .before .before .pre .all in
+    let proper = c .before .before .before .before .before .before .before .before .before .before .before .before .before .before .before .before .before .before .before .pre .proper in
+    let size = allowed-size (at .m) (at .n) (at .t) proper in
+    let inits = initWords rows (at .n) (at .t) all in
+    let ops = opWords rows (at .n) (at .t) all in
+    let starting = init-words-count rows (at .n) (at .t) all in
     let values = values-count inits (at .n) starting in
     let inputs = inputs-count inits (at .n) starting in
     let none = sym (c .before .before .before .before .scan .ensures .0) ∙ c .before .before .if1 .left in (
       clean-inits p (at .m) (valuesIn inits) (inputsIn inits) (inputsIn ops) (at .n) values inputs size none,
       (
-        omega (arith, c .before .before .before .before .before .before .before .before .before .before .pre .out-room),
-        record {
-          size = sized-few (at .m) (at .n) size;
-          count = allowed-count (at .m) (at .n) (at .t) (c .before .before .before .before .before .before .before .before .before .before .pre .proper);
-          allowed = size;
-          starting = starting;
-          operating = op-words-count rows (at .n) (at .t) (c .before .before .before .before .before .before .before .before .before .before .pre .all);
-          out-room = omega (arith, c .before .before .before .before .before .before .before .before .before .before .pre .out-room, length-drop (7 * at .n) (at .out .now));
-          scratch-room = c .before .before .before .before .before .before .before .before .before .before .pre .scratch-room;
-          clean = clean-operations p (at .m) (valuesIn inits) (inputsIn inits) (inputsIn ops) (at .n) values inputs size none;
-        },
+        omega (arith, c .before .before .before .before .before .before .before .before .before .before .before .before .before .before .before .before .before .before .before .pre .out-room),
+        (
+          record {
+            size = sized-few (at .m) (at .n) size;
+            count = allowed-count (at .m) (at .n) (at .t) proper;
+            allowed = size;
+            starting = starting;
+            operating = op-words-count rows (at .n) (at .t) all;
+            out-room = omega (arith, c .before .before .before .before .before .before .before .before .before .before .before .before .before .before .before .before .before .before .before .pre .out-room, length-drop (7 * at .n) (at .out .now));
+            scratch-room = omega (arith, c .before .before .before .before .before .before .before .before .prepare .kept, c .before .before .before .before .before .before .before .before .before .before .before .before .clear .kept, c .before .before .before .before .before .before .before .before .before .before .before .before .before .before .before .before .before .before .before .pre .scratch-room);
+            clean = clean-operations p (at .m) (valuesIn inits) (inputsIn inits) (inputsIn ops) (at .n) values inputs size none;
+          },
+          c .before .before .before .before .before .before .before .before .prepare .ensures,
+        ),
       ),
     )
 
@@ -100,12 +140,18 @@ same-length-4 c = search needs
 
 returns-2 : tie.Need-returns-2
 unfolding valuesIn
-returns-2 c = let at = c .before .before .before .before .before .before .before .before .before .before .before .before .before .before .before .args in
+returns-2 c = let at = c .before .before .before .before .before .before .before .before .before .before .before .before .before .before .before .before .before .before .before .before .before .before .before .before .args in
     let rows = at .rows .now in
+    let all = c .before .before .before .before .before .before .before .before .before .before .before .before .before .before .before .before .before .before .before .before .before .before .before .before .pre .all in
+    let proper = c .before .before .before .before .before .before .before .before .before .before .before .before .before .before .before .before .before .before .before .before .before .before .before .before .pre .proper in
+    let size = allowed-size (at .m) (at .n) (at .t) proper in
+    let inits = initWords rows (at .n) (at .t) all in
+    let ops = opWords rows (at .n) (at .t) all in
     let none = sym (c .before .before .before .before .before .before .before .before .before .scan .ensures .0) ∙ c .before .before .before .before .before .before .before .if1 .left in
-    filled-is (at .m) (at .t) (inputsIn (initWords rows (at .n) (at .t) (c .before .before .before .before .before .before .before .before .before .before .before .before .before .before .before .pre .all))) (inputsIn (opWords rows (at .n) (at .t) (c .before .before .before .before .before .before .before .before .before .before .before .before .before .before .before .pre .all))) (at .out .now) (at .scratch .now) _ _ (c .before .before .before .before .write-rows .result)
-    none (c .before .before .before .before .write-rows .ensures .0) (c .before .before .before .before .write-rows .ensures .1 .0) (c .before .before .before .before .write-rows .ensures .1 .1)
-    ∙ parts-filled rows (at .n) (at .t) (c .before .before .before .before .before .before .before .before .before .before .before .before .before .before .before .pre .all) (at .m) (at .out .now) (at .scratch .now)
+    let long : length (c .before .before .before .before .before .before .before .before .before .before .before .before .before .prepare .last .1 .1 .1 .0) ≡ length (at .scratch .now) = omega (arith, c .before .before .before .before .before .before .before .before .before .before .before .before .before .prepare .kept, c .before .before .before .before .before .before .before .before .before .before .before .before .before .before .before .before .before .clear .kept) in
+    filled-is (at .m) (at .t) (inputsIn inits) (inputsIn ops) (at .out .now) (at .scratch .now) _ _ (c .before .before .before .before .write-rows .result)
+    none (c .before .before .before .before .write-rows .ensures .0) (c .before .before .before .before .write-rows .ensures .1 .0 ∙ ap (λ (k : ℕ). replicate k 0) long) (c .before .before .before .before .write-rows .ensures .1 .1)
+    ∙ parts-filled rows (at .n) (at .t) all (at .m) (at .out .now) (at .scratch .now)
 
 pub fill-rows-spec : {M : Type 1} → statement M
 fill-rows-spec =
@@ -117,9 +163,13 @@ fill-rows-spec =
     sub-ops
     part-ops-start
     part-ops-end
-    scan-requires
     clear-requires
+    prepare-requires
+    slice-reshare-prefix-scan
+    slice-aggregate-scan
+    scan-requires
     clear-requires-2
+    clear-requires-3
     same-length
     same-length-2
     returns

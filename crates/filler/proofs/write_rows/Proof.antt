@@ -1,22 +1,18 @@
 -- `filler::write_rows` meets its contract.
 -- Assumes nothing.
-use Prim.Native.Nat.{ℕ, _+_, _*_, _≤_, _-_}
+use Prim.Native.Nat.{ℕ, _*_}
 use native.Mathlib.Omega.{arith}
-use mathlib.Core.List.{List, map}
-use mathlib.Core.Path.{_≡_, sym, ap, subst, _∙_}
-use lib.ListN.{length, getD, take, drop, replicate, length-append, length-map, length-drop}
+use mathlib.Core.List.{map}
+use mathlib.Core.Path.{_≡_, ap, _∙_}
+use lib.ListN.{length, replicate, length-append, length-map, length-drop}
 use Rattle.memory.specs.Honest.{bare, filledRows, operationsFilled}
 use Rattle.memory.specs.Filler.{inputsIn}
-use Rattle.filler.specs.Words.{valuesIn}
+use Rattle.index.specs.Values.{valuesIn}
 use Rattle.filler.proofs.Inputs.{inputs-count}
 use Rattle.filler.proofs.Laid.{laid-handed-on, part-lent}
-use Rattle.filler.proofs.Whole.{blank-all}
 use borrow.Author.Needs.{needs}
 use Rattle.filler.proofs.write_rows.Statement.{statement}
 use Rattle.filler.proofs.write_rows.Tie as tie
-
-clear-requires : tie.Need-clear-requires
-clear-requires c κs = search needs
 
 copy-inits-requires : tie.Need-copy-inits-requires
 copy-inits-requires c κs = search needs
@@ -37,8 +33,8 @@ part-rows-after-end : tie.Need-part-rows-after-end
 part-rows-after-end c = search needs
 
 rows-after-requires : tie.Need-rows-after-requires
-rows-after-requires c κs = let at = c .before .before .before .before .before .before .before .before .before .before .before .before .before .before .args in
-    let f = c .before .before .before .before .before .before .before .before .before .before .before .before .before .before .pre .1 .1 in
+rows-after-requires c κs = let at = c .before .before .before .before .before .before .before .before .before .before .args in
+    let f = c .before .before .before .before .before .before .before .before .before .before .pre .1 .1 .0 in
     let out = c .before .before .before .before .copy-inits .last .1 .1 .0 in (
       record {
         size = f .size;
@@ -47,17 +43,17 @@ rows-after-requires c κs = let at = c .before .before .before .before .before .
         starting = f .starting;
         operating = f .operating;
         out-room = omega (arith, ap length (part-lent out (7 * at .n)), length-drop (7 * at .n) out, length-drop (7 * at .n) (at .out .now), c .before .before .before .before .copy-inits .kept, f .out-room);
-        scratch-room = omega (arith, c .before .before .before .before .before .before .before .before .clear .kept, f .scratch-room);
+        scratch-room = f .scratch-room;
         clean = f .clean;
       },
-      (λ j. ap (λ (s : List ℕ). getD s j 0) (c .before .before .before .before .before .before .before .before .clear .ensures) ∙ blank-all (length (at .scratch .now)) j),
+      c .before .before .before .before .before .before .before .before .before .before .pre .1 .1 .1,
     )
 
-clear-requires-2 : tie.Need-clear-requires-2
-clear-requires-2 c κs = search needs
+clear-requires : tie.Need-clear-requires
+clear-requires c κs = search needs
 
 add-result : tie.Need-add-result
-add-result c = omega (arith, c .before .before .before .before .before .before .before .before .rows-after .ensures, c .before .before .before .before .before .before .before .before .before .before .before .before .before .before .before .before .before .before .before .before .before .before .before .pre, c .before .before .before .before .before .before .before .before .before .before .before .before .before .before .before .before .before .before .before .before .before .before .before .good)
+add-result c = omega (arith, c .before .before .before .before .before .before .before .before .rows-after .ensures, c .before .before .before .before .before .before .before .before .before .before .before .before .before .before .before .before .before .before .before .pre, c .before .before .before .before .before .before .before .before .before .before .before .before .before .before .before .before .before .before .before .good)
 
 same-length : tie.Need-same-length
 same-length c = search needs
@@ -67,14 +63,14 @@ same-length-2 c = search needs
 
 returns : tie.Need-returns
 unfolding filledRows valuesIn
-returns c = let at = c .before .before .before .before .before .before .before .before .before .before .before .before .before .before .before .before .before .before .before .before .before .before .before .args in
+returns c = let at = c .before .before .before .before .before .before .before .before .before .before .before .before .before .before .before .before .before .before .before .args in
     let is = inputsIn (at .inits .now) in
     let more = operationsFilled (at .m) (at .t) (valuesIn (at .inits .now)) (inputsIn (at .ops .now)) in
-    let count : length (map bare is) ≡ at .n = length-map is bare ∙ inputs-count (at .inits .now) (at .n) (c .before .before .before .before .before .before .before .before .before .before .before .before .before .before .before .before .before .before .before .before .before .before .before .pre .1 .1 .starting) in
-    let long : length (c .before .before .before .before .before .before .before .before .rows-after .last .1 .1 .1 .1 .1 .1 .0) ≡ length (at .scratch .now) = omega (arith, c .before .before .before .before .before .before .before .before .rows-after .kept, c .before .before .before .before .before .before .before .before .before .before .before .before .before .before .before .before .before .clear .kept) in (
-      laid-handed-on (at .out .now) (c .before .before .before .before .before .before .before .before .before .before .before .before .before .copy-inits .last .1 .1 .0) (c .before .before .before .before .before .before .before .before .rows-after .last .1 .1 .1 .1 .1 .0) (7 * at .n) (map bare is) more (c .before .before .before .before .before .before .before .before .before .before .before .before .before .copy-inits .ensures) (omega arith) (c .before .before .before .before .before .before .before .before .before .before .before .before .before .before .before .before .before .before .before .before .before .before .before .pre .1 .0) (c .before .before .before .before .before .before .before .before .rows-after .ensures .0),
+    let count : length (map bare is) ≡ at .n = length-map is bare ∙ inputs-count (at .inits .now) (at .n) (c .before .before .before .before .before .before .before .before .before .before .before .before .before .before .before .before .before .before .before .pre .1 .1 .0 .starting) in
+    let long : length (c .before .before .before .before .before .before .before .before .rows-after .last .1 .1 .1 .1 .1 .1 .0) ≡ length (at .scratch .now) = omega (arith, c .before .before .before .before .before .before .before .before .rows-after .kept) in (
+      laid-handed-on (at .out .now) (c .before .before .before .before .before .before .before .before .before .before .before .before .before .copy-inits .last .1 .1 .0) (c .before .before .before .before .before .before .before .before .rows-after .last .1 .1 .1 .1 .1 .0) (7 * at .n) (map bare is) more (c .before .before .before .before .before .before .before .before .before .before .before .before .before .copy-inits .ensures) (omega arith) (c .before .before .before .before .before .before .before .before .before .before .before .before .before .before .before .before .before .before .before .pre .1 .0) (c .before .before .before .before .before .before .before .before .rows-after .ensures .0),
       (
-        c .before .before .clear2 .ensures ∙ ap (λ (n : ℕ). replicate n 0) long,
+        c .before .before .clear .ensures ∙ ap (λ (n : ℕ). replicate n 0) long,
         omega (arith, c .before .before .before .before .before .before .before .before .rows-after .ensures .1 .0, length-append (map bare is) more, count),
       ),
     )
@@ -83,7 +79,6 @@ pub write-rows-spec : {M : Type 1} → statement M
 write-rows-spec =
     tie.close
     (tie.spec
-    clear-requires
     copy-inits-requires
     mul-from
     mul-rows-after
@@ -91,7 +86,7 @@ write-rows-spec =
     part-rows-after-start
     part-rows-after-end
     rows-after-requires
-    clear-requires-2
+    clear-requires
     add-result
     same-length
     same-length-2

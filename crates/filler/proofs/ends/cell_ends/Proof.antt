@@ -1,12 +1,11 @@
 -- `filler::ends::cell_ends` meets its contract. The invariant of its loop: what is written and the rows left make up the whole.
 -- Assumes nothing.
-use Prim.Native.Nat.{ℕ, _+_, _*_, _≤_, _<_, _-_}
+use Prim.Native.Nat.{ℕ, _+_, _*_, _≤_, _-_}
 use native.Mathlib.Omega.{arith}
 use mathlib.Core.Path.{_≡_, refl, sym, ap, _∙_}
 use mathlib.Core.List.{List}
 use borrow.Author.Needs.{needs}
 use lib.ListN.{length}
-use lib.Seq.{length-sets}
 use Rattle.filler.specs.Words.{laid}
 use Rattle.filler.specs.Ends.{cellEnds}
 use Rattle.filler.proofs.Laid.{laid-none}

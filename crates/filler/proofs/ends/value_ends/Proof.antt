@@ -1,6 +1,6 @@
 -- `filler::ends::value_ends` meets its contract. The invariant of its loop: what is written and the rows left make up the whole.
 -- Assumes nothing.
-use Prim.Native.Nat.{ℕ, suc, _+_, _*_, _≤_, _<_, _-_}
+use Prim.Native.Nat.{ℕ, suc, _+_, _*_, _≤_, _-_}
 use native.Mathlib.Omega.{arith}
 use native.Mathlib.Numerals.{add-one}
 use mathlib.Core.Path.{_≡_, refl, sym, ap, _∙_}
@@ -8,7 +8,8 @@ use mathlib.Core.List.{List}
 use borrow.Author.Needs.{needs}
 use Rattle.memory.specs.declared.Row.{Row}
 use lib.ListN.{length, drop, drop-of-length-le}
-use Rattle.filler.specs.Words.{laid, valuesIn}
+use Rattle.index.specs.Values.{valuesIn}
+use Rattle.filler.specs.Words.{laid}
 use Rattle.filler.specs.Ends.{valueEnds}
 use Rattle.filler.proofs.Inputs.{values-count}
 use Rattle.filler.proofs.Laid.{laid-none}

@@ -2,7 +2,8 @@
 -- Assumes nothing.
 use mathlib.Core.Path.{sym, _∙_}
 use Rattle.field.specs.Field.{p}
-use Rattle.filler.specs.Words.{opAt, guardAt, addrAt, valueAt, inputAt}
+use Rattle.index.specs.Values.{valueAt}
+use Rattle.filler.specs.Words.{opAt, guardAt, addrAt, inputAt}
 use Rattle.filler.specs.Scan.{initForm}
 use Rattle.filler.proofs.Forms.{init-form}
 use borrow.Author.Needs.{needs}

@@ -3,7 +3,8 @@
 use mathlib.Core.Path.{sym, _∙_}
 use borrow.Author.Tests.{eq-eqb, ne-eqb}
 use Rattle.field.specs.Field.{p}
-use Rattle.filler.specs.Words.{opAt, guardAt, addrAt, valueAt, inputAt, valuesIn}
+use Rattle.index.specs.Values.{valueAt, valuesIn}
+use Rattle.filler.specs.Words.{opAt, guardAt, addrAt, inputAt}
 use Rattle.filler.proofs.Scanned.{fault-by-words}
 use borrow.Author.Needs.{needs}
 use Rattle.filler.proofs.faults.operation_fault.Statement.{statement}
@@ -53,18 +54,18 @@ form-requires c κs = search needs
 
 returns : tie.Need-returns
 unfolding inputAt
-returns c = let at = c .before .before .before .before .before .before .before .before .before .before .args in
+returns c = let at = c .before .before .before .before .before .before .before .before .before .before .before .args in
     let ops = at .ops .now in
     sym
     (fault-by-words p (at .m) (valuesIn (at .inits .now)) (at .level) (opAt ops (at .k)) (guardAt ops (at .k)) (addrAt ops (at .k)) (valueAt ops (at .k))
     ∙ simp (sym (c .before .before .before .below .ensures) ∙ c .before .before .if1 .taken, sym (c .before .form .ensures), ne-eqb _ _ (c .if2 .taken)))
 
 refusal-requires : tie.Need-refusal-requires
-refusal-requires c κs = search needs
+refusal-requires c κs = c .before .before .before .before .before .before .before .before .before .before .before .pre .1
 
 returns-2 : tie.Need-returns-2
 unfolding inputAt
-returns-2 c = let at = c .before .before .before .before .before .before .before .before .before .before .before .args in
+returns-2 c = let at = c .before .before .before .before .before .before .before .before .before .before .before .before .args in
     let ops = at .ops .now in
     c .refusal .ensures
     ∙ sym
@@ -73,7 +74,7 @@ returns-2 c = let at = c .before .before .before .before .before .before .before
 
 returns-3 : tie.Need-returns-3
 unfolding inputAt
-returns-3 c = let at = c .before .before .before .before .before .before .before .before .args in
+returns-3 c = let at = c .before .before .before .before .before .before .before .before .before .args in
     let ops = at .ops .now in
     sym
     (fault-by-words p (at .m) (valuesIn (at .inits .now)) (at .level) (opAt ops (at .k)) (guardAt ops (at .k)) (addrAt ops (at .k)) (valueAt ops (at .k))

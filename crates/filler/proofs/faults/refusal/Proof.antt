@@ -21,7 +21,7 @@ enum-told-3 : tie.Need-enum-told-3
 enum-told-3 c = search needs
 
 missing-requires : tie.Need-missing-requires
-missing-requires c κs = search needs
+missing-requires c κs = c .before .before .before .before .pre (c .enum-told3 .given .1)
 
 enum-told-4 : tie.Need-enum-told-4
 enum-told-4 c = search needs

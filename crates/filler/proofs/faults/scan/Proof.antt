@@ -5,7 +5,7 @@ use mathlib.Core.Path.{_≡_, sym, ap, _∙_}
 use borrow.Author.Tests.{eq-eqb, ne-eqb}
 use Rattle.field.specs.Field.{p}
 use Rattle.memory.specs.Filler.{inputsIn, rowsFault, Placed}
-use Rattle.filler.specs.Words.{valuesIn}
+use Rattle.index.specs.Values.{valuesIn}
 use Rattle.filler.specs.Scan.{scanned, initsScanned}
 use Rattle.filler.proofs.Inputs.{inputs-count, values-count}
 use Rattle.filler.proofs.FirstFault.{first-fault}
@@ -17,10 +17,10 @@ scan-inits-requires : tie.Need-scan-inits-requires
 scan-inits-requires c κs = search needs
 
 returns : tie.Need-returns
-returns c = let at = c .before .before .before .before .before .args in
+returns c = let at = c .before .before .before .before .before .before .args in
     let is = inputsIn (at .inits .now) in
     let found : rowsFault p (at .m) (valuesIn (at .inits .now)) 1 is (inputsIn (at .ops .now)) ≡ initsScanned p 1 is =
-    first-fault p (at .m) (valuesIn (at .inits .now)) is (inputsIn (at .ops .now)) (at .n) (values-count (at .inits .now) (at .n) (c .before .before .before .before .before .pre .0 .0)) (inputs-count (at .inits .now) (at .n) (c .before .before .before .before .before .pre .0 .0)) (c .before .before .before .before .before .pre .1)
+    first-fault p (at .m) (valuesIn (at .inits .now)) is (inputsIn (at .ops .now)) (at .n) (values-count (at .inits .now) (at .n) (c .before .before .before .before .before .before .pre .0 .0)) (inputs-count (at .inits .now) (at .n) (c .before .before .before .before .before .before .pre .0 .0)) (c .before .before .before .before .before .before .pre .1 .0)
     ∙ simp (ne-eqb _ 0 (λ e. c .if1 .taken (c .before .before .scan-inits .ensures .0 ∙ e))) in
     (c .before .before .scan-inits .ensures .0 ∙ ap (λ (f : Placed). f .number) (sym found), c .before .before .scan-inits .ensures .1 ∙ ap (λ (f : Placed). f .place) (sym found))
 
@@ -28,10 +28,10 @@ scan-operations-requires : tie.Need-scan-operations-requires
 scan-operations-requires c κs = search needs
 
 returns-2 : tie.Need-returns-2
-returns-2 c = let at = c .before .before .before .before .before .before .args in
+returns-2 c = let at = c .before .before .before .before .before .before .before .args in
     let is = inputsIn (at .inits .now) in
     let found : rowsFault p (at .m) (valuesIn (at .inits .now)) 1 is (inputsIn (at .ops .now)) ≡ scanned p (at .m) (valuesIn (at .inits .now)) (at .n) (at .n + 1) (inputsIn (at .ops .now)) =
-    first-fault p (at .m) (valuesIn (at .inits .now)) is (inputsIn (at .ops .now)) (at .n) (values-count (at .inits .now) (at .n) (c .before .before .before .before .before .before .pre .0 .0)) (inputs-count (at .inits .now) (at .n) (c .before .before .before .before .before .before .pre .0 .0)) (c .before .before .before .before .before .before .pre .1)
+    first-fault p (at .m) (valuesIn (at .inits .now)) is (inputsIn (at .ops .now)) (at .n) (values-count (at .inits .now) (at .n) (c .before .before .before .before .before .before .before .pre .0 .0)) (inputs-count (at .inits .now) (at .n) (c .before .before .before .before .before .before .before .pre .0 .0)) (c .before .before .before .before .before .before .before .pre .1 .0)
     ∙ simp (eq-eqb _ 0 (sym (c .before .before .before .scan-inits .ensures .0) ∙ c .before .if1 .left)) in
     (c .scan-operations .ensures .0 ∙ ap (λ (f : Placed). f .number) (sym found), c .scan-operations .ensures .1 ∙ ap (λ (f : Placed). f .place) (sym found))
 

@@ -1,15 +1,13 @@
 -- `filler::faults::scan_inits` meets its contract. The invariant of its loop: no init row passed has a fault, so the scan is that of the rows left.
 -- Assumes nothing.
-use Prim.Native.Nat.{ℕ, suc, _+_, _*_, _≤_, _<_, _-_}
+use Prim.Native.Nat.{_+_, _≤_, _-_}
 use native.Mathlib.Omega.{arith}
 use native.Mathlib.Numerals.{add-one}
 use mathlib.Core.Path.{_≡_, refl, sym, ap, _∙_}
-use mathlib.Core.List.{List}
-use lib.ListN.{length, drop, drop-of-length-le}
+use lib.ListN.{drop, drop-of-length-le}
 use borrow.Author.Needs.{needs}
 use borrow.Author.Tests.{eq-eqb, ne-eqb}
 use Rattle.field.specs.Field.{p}
-use Rattle.memory.specs.Honest.{Input}
 use Rattle.memory.specs.Filler.{inputsIn, Placed, placed}
 use Rattle.filler.specs.Scan.{initsScanned}
 use Rattle.filler.proofs.Inputs.{inputs-count}

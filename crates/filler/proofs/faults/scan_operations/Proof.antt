@@ -1,19 +1,19 @@
 -- `filler::faults::scan_operations` meets its contract. The invariant of its loop: no operation passed has a fault, so the scan is that of the operations
 -- left, from the level that has been reached.
 -- Assumes nothing.
-use Prim.Native.Nat.{ℕ, suc, _+_, _*_, _≤_, _<_, _-_}
+use Prim.Native.Nat.{ℕ, suc, _+_, _≤_, _-_}
 use native.Mathlib.Omega.{arith}
 use native.Mathlib.Numerals.{add-one}
-use mathlib.Core.Path.{_≡_, refl, sym, ap, _∙_}
+use mathlib.Core.Path.{_≡_, sym, ap, _∙_}
 use mathlib.Core.Bool.{Bool, true, cond}
-use mathlib.Core.List.{List}
 use lib.Dec.{eqb}
-use lib.ListN.{length, drop, drop-of-length-le}
+use lib.ListN.{drop, drop-of-length-le}
 use borrow.Author.Needs.{needs}
 use borrow.Author.Tests.{eq-eqb, ne-eqb}
 use Rattle.field.specs.Field.{p}
 use Rattle.memory.specs.Filler.{inputsIn, Placed, placed}
-use Rattle.filler.specs.Words.{valuesIn, opAt, guardAt, inputAt}
+use Rattle.index.specs.Values.{valuesIn}
+use Rattle.filler.specs.Words.{opAt, guardAt, inputAt}
 use Rattle.filler.specs.Scan.{leveled, faultAt, scanned}
 use Rattle.filler.proofs.Inputs.{inputs-count}
 use Rattle.filler.proofs.Scanned.{leveled-rise, scan-turn}
@@ -21,27 +21,27 @@ use Rattle.filler.proofs.faults.scan_operations.Statement.{statement}
 use Rattle.filler.proofs.faults.scan_operations.Tie as tie
 
 abbrev Inv-loop : tie.InvT-loop
-Inv-loop m n t inits ops level₀ k₀ level k = (k ≤ t) × (level ≤ n + k) × (scanned p m (valuesIn inits) n (n + 1) (inputsIn ops) ≡ scanned p m (valuesIn inits) level (n + k + 1) (drop k (inputsIn ops)))
+Inv-loop m n t inits links ops level₀ k₀ level k = (k ≤ t) × (level ≤ n + k) × (scanned p m (valuesIn inits) n (n + 1) (inputsIn ops) ≡ scanned p m (valuesIn inits) level (n + k + 1) (drop k (inputsIn ops)))
 
 abbrev μ-loop : tie.MeasureT-loop
-μ-loop m n t inits ops level₀ k₀ level k = t - k
+μ-loop m n t inits links ops level₀ k₀ level k = t - k
 
 loop-holds : tie.Need-loop-holds Inv-loop μ-loop
-loop-holds c = let start : c .before .before .args .n + 1 ≡ c .before .before .args .n + 0 + 1 = omega arith in
-    (omega arith, omega arith, ap (λ (place : ℕ). scanned p (c .before .before .args .m) (valuesIn (c .before .before .args .inits .now)) (c .before .before .args .n) place (inputsIn (c .before .before .args .ops .now))) start)
+loop-holds c = let start : c .before .before .before .args .n + 1 ≡ c .before .before .before .args .n + 0 + 1 = omega arith in
+    (omega arith, omega arith, ap (λ (place : ℕ). scanned p (c .before .before .before .args .m) (valuesIn (c .before .before .before .args .inits .now)) (c .before .before .before .args .n) place (inputsIn (c .before .before .before .args .ops .now))) start)
 
 operation-fault-requires : tie.Need-operation-fault-requires Inv-loop μ-loop
 operation-fault-requires c κs = search needs
 
-add-t10 : tie.Need-add-t10 Inv-loop μ-loop
-add-t10 c = search needs
-
 add-t11 : tie.Need-add-t11 Inv-loop μ-loop
 add-t11 c = search needs
 
+add-t12 : tie.Need-add-t12 Inv-loop μ-loop
+add-t12 c = search needs
+
 returns : tie.Need-returns Inv-loop μ-loop
 unfolding placed
-returns c = let at = c .before .before .before .before .before .before .args in
+returns c = let at = c .before .before .before .before .before .before .before .args in
     let k = c .before .before .before .loop .k in
     let found : scanned p (at .m) (valuesIn (at .inits .now)) (at .n) (at .n + 1) (inputsIn (at .ops .now)) ≡ placed (c .before .operation-fault .result) (at .n + k + 1) =
     c .before .before .before .loop .inv .2 ∙ scan-turn p (at .m) (valuesIn (at .inits .now)) (c .before .before .before .loop .level) (at .n + k + 1) (at .ops .now) k (omega arith)
@@ -79,7 +79,7 @@ loop-less : tie.Need-loop-less Inv-loop μ-loop
 loop-less c = search needs
 
 loop-again : tie.Need-loop-again Inv-loop μ-loop
-loop-again c = let at = c .before .before .before .before .before .before .before .before .before .args in
+loop-again c = let at = c .before .before .before .before .before .before .before .before .before .before .args in
     let k = c .before .before .before .before .before .before .loop .k in
     let ops = at .ops .now in
     let values = valuesIn (at .inits .now) in
@@ -97,9 +97,9 @@ loop-again c = let at = c .before .before .before .before .before .before .befor
 
 returns-2 : tie.Need-returns-2 Inv-loop μ-loop
 unfolding scanned placed
-returns-2 c = let at = c .before .before .before .before .args in
+returns-2 c = let at = c .before .before .before .before .before .args in
     let k = c .before .loop .k in
-    let past = drop-of-length-le (inputsIn (at .ops .now)) {i = k} (omega (arith, inputs-count (at .ops .now) (at .t) (c .before .before .before .before .pre .1))) in
+    let past = drop-of-length-le (inputsIn (at .ops .now)) {i = k} (omega (arith, inputs-count (at .ops .now) (at .t) (c .before .before .before .before .before .pre .0 .0))) in
     let found : scanned p (at .m) (valuesIn (at .inits .now)) (at .n) (at .n + 1) (inputsIn (at .ops .now)) ≡ placed 0 0 =
     c .before .loop .inv .2 ∙ ap (scanned p (at .m) (valuesIn (at .inits .now)) (c .before .loop .level) (at .n + k + 1)) past in
     (ap (λ (f : Placed). f .number) (sym found), ap (λ (f : Placed). f .place) (sym found))
@@ -112,8 +112,8 @@ scan-operations-spec =
     μ-loop
     loop-holds
     operation-fault-requires
-    add-t10
     add-t11
+    add-t12
     returns
     mul-leveled
     mul-leveled-2

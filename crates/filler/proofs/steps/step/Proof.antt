@@ -24,8 +24,8 @@ rom-requires c κs = (c .before .before .before .before .before .before .before 
 enum-told-3 : tie.Need-enum-told-3
 enum-told-3 c = search needs
 
-set-requires : tie.Need-set-requires
-set-requires c κs = (c .before .before .before .before .before .before .before .before .pre .0, (rw (c .before .before .enum-told3 .given .1) at (c .before .before .before .before .before .before .before .before .pre .1)))
+member-requires : tie.Need-member-requires
+member-requires c κs = (c .before .before .before .before .before .before .before .before .pre .0, (rw (c .before .before .enum-told3 .given .1) at (c .before .before .before .before .before .before .before .before .pre .1)))
 
 enum-told-4 : tie.Need-enum-told-4
 enum-told-4 c = search needs
@@ -67,7 +67,7 @@ same-length-6 c = search needs
 
 returns-3 : tie.Need-returns-3
 unfolding turn advanced
-returns-3 c = (record { row = simp (c .before .before .before .before .set .ensures .row, c .before .before .before .before .before .before .before .enum-told3 .given .1); kept = simp (c .before .before .before .before .set .ensures .kept, c .before .before .before .before .before .before .before .enum-told3 .given .1) }, simp (c .before .before .before .before .before .before .before .enum-told3 .given .1))
+returns-3 c = (record { row = simp (c .before .before .before .before .member .ensures .row, c .before .before .before .before .before .before .before .enum-told3 .given .1); kept = simp (c .before .before .before .before .member .ensures .kept, c .before .before .before .before .before .before .before .enum-told3 .given .1) }, simp (c .before .before .before .before .before .before .before .enum-told3 .given .1))
 
 same-length-7 : tie.Need-same-length-7
 same-length-7 c = search needs
@@ -99,7 +99,7 @@ step-spec =
     enum-told-2
     rom-requires
     enum-told-3
-    set-requires
+    member-requires
     enum-told-4
     stack-requires
     enum-told-5

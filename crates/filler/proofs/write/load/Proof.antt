@@ -1,6 +1,6 @@
 -- `filler::write::load` meets its contract. The invariant of its loop: the words passed hold the values, and the others are 0.
 -- Assumes nothing.
-use Prim.Native.Nat.{ℕ, _+_, _*_, _≤_, _<_, _-_}
+use Prim.Native.Nat.{ℕ, _+_, _≤_, _<_, _-_}
 use native.Mathlib.Omega.{arith}
 use native.Mathlib.Decide.{ℕ-discrete}
 use mathlib.Core.Path.{_≡_, refl, sym, ap, _∙_}
@@ -8,7 +8,7 @@ use mathlib.Core.List.{List}
 use borrow.Author.Needs.{needs}
 use lib.ListN.{length, getD, set, length-set}
 use lib.Seq.{getD-set-same, getD-set-other}
-use Rattle.filler.specs.Words.{valuesIn, valueAt}
+use Rattle.index.specs.Values.{valueAt}
 use Rattle.filler.proofs.Inputs.{values-at}
 use Rattle.filler.proofs.write.load.Statement.{statement}
 use Rattle.filler.proofs.write.load.Tie as tie

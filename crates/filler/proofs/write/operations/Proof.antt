@@ -1,8 +1,8 @@
 -- `filler::write::operations` meets its contract. The invariant of its loop: a run of so many operations.
 -- Assumes nothing.
-use Prim.Native.Nat.{ℕ, _≤_, _<_, _-_}
+use Prim.Native.Nat.{ℕ, _≤_, _-_}
 use native.Mathlib.Omega.{arith}
-use mathlib.Core.Path.{_≡_, refl, sym, subst, _∙_}
+use mathlib.Core.Path.{_≡_, refl, sym, subst}
 use borrow.Author.Needs.{needs}
 use lib.ListN.{length}
 use Rattle.filler.specs.Write.{widthOf}

@@ -16,6 +16,9 @@ enum-told-2 c = search needs
 enum-told-3 : tie.Need-enum-told-3
 enum-told-3 c = search needs
 
+plant-requires : tie.Need-plant-requires
+plant-requires c κs = search needs
+
 enum-told-4 : tie.Need-enum-told-4
 enum-told-4 c = search needs
 
@@ -31,8 +34,11 @@ returns c = rw (c .before .before .before .before .enum-told .given .1) (c .befo
 returns-2 : tie.Need-returns-2
 returns-2 c = rw (c .enum-told2 .given .1) (c .before .before .before .before .pre .1)
 
+same-length-2 : tie.Need-same-length-2
+same-length-2 c = search needs
+
 returns-3 : tie.Need-returns-3
-returns-3 c = rw (c .enum-told3 .given .1) (c .before .before .before .before .pre .1)
+returns-3 c = rw (c .before .before .before .before .enum-told3 .given .1) (c .before .before .plant .ensures)
 
 returns-4 : tie.Need-returns-4
 returns-4 c = rw (c .enum-told4 .given .1) (c .before .before .before .before .pre .1)
@@ -48,11 +54,13 @@ prepare-spec =
     load-requires
     enum-told-2
     enum-told-3
+    plant-requires
     enum-told-4
     enum-told-5
     same-length
     returns
     returns-2
+    same-length-2
     returns-3
     returns-4
     returns-5)

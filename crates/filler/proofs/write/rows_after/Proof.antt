@@ -1,6 +1,6 @@
 -- `filler::write::rows_after` meets its contract.
 -- Assumes nothing.
-use Prim.Native.Nat.{ℕ, _+_, _*_, _≤_, _-_}
+use Prim.Native.Nat.{ℕ, _+_, _*_, _-_}
 use native.Mathlib.Omega.{arith}
 use mathlib.Core.List.{List}
 use mathlib.Core.Path.{_≡_, sym, ap, subst, _∙_}
@@ -14,11 +14,8 @@ use borrow.Author.Needs.{needs}
 use Rattle.filler.proofs.write.rows_after.Statement.{statement}
 use Rattle.filler.proofs.write.rows_after.Tie as tie
 
-prepare-requires : tie.Need-prepare-requires
-prepare-requires c κs = search needs
-
 operations-requires : tie.Need-operations-requires
-operations-requires c κs = let f = c .before .before .before .before .before .before .before .before .before .before .pre .0 in (
+operations-requires c κs = let f = c .before .before .before .before .before .before .pre .0 in (
   record {
     size = f .size;
     count = f .count;
@@ -29,7 +26,7 @@ operations-requires c κs = let f = c .before .before .before .before .before .b
     scratch-room = omega (arith, f .scratch-room);
     clean = f .clean;
   },
-  c .before .before .before .before .prepare .ensures,
+  c .before .before .before .before .before .before .pre .1,
 )
 
 mul-from : tie.Need-mul-from
@@ -51,7 +48,7 @@ part-finish-end : tie.Need-part-finish-end
 part-finish-end c = search needs
 
 finish-requires : tie.Need-finish-requires
-finish-requires c κs = let at = c .before .before .before .before .before .before .before .before .before .before .before .before .before .before .before .before .before .before .args in
+finish-requires c κs = let at = c .before .before .before .before .before .before .before .before .before .before .before .before .before .before .args in
     let out = c .before .before .before .before .before .before .before .operations .last .1 .1 .1 .1 .1 .0 in
     let s = c .before .before .before .before .before .before .before .operations .last .1 .1 .1 .1 .1 .1 .0 in
     let done = c .before .before .before .before .before .before .before .operations .ensures in
@@ -60,14 +57,14 @@ finish-requires c κs = let at = c .before .before .before .before .before .befo
     (subst (λ (l : List ℕ). EndingFits (at .m) (widthOf (at .m) (at .n) (at .t)) (at .t) (c .before .before .before .before .before .before .before .operations .result) (at .inits .now) s l) (sym (part-lent out (7 * at .t))) (done .fits))
 
 add-result : tie.Need-add-result
-add-result c = let at = c .before .before .before .before .before .before .before .before .before .before .before .before .before .before .before .before .before .before .before .before .before .args in
+add-result c = let at = c .before .before .before .before .before .before .before .before .before .before .before .before .before .before .before .before .before .args in
     let out = c .before .before .before .before .before .before .before .before .before .before .operations .last .1 .1 .1 .1 .1 .0 in
     let s = c .before .before .before .before .before .before .before .before .before .before .operations .last .1 .1 .1 .1 .1 .1 .0 in
     let done = c .before .before .before .before .before .before .before .before .before .before .operations .ensures in
     let few = ending-room (at .m) (widthOf (at .m) (at .n) (at .t)) (at .t) (c .before .before .before .before .before .before .before .before .before .before .operations .result) (at .inits .now) s (drop (7 * at .t) out) (done .fits) in
     let count : c .before .before .finish .result ≡ length (ending (at .m) (widthOf (at .m) (at .n) (at .t)) (at .t) (c .before .before .before .before .before .before .before .before .before .before .operations .result) (at .inits .now) s) =
     c .before .before .finish .ensures .1 ∙ ap (λ (w : ℕ). length (ending (at .m) w (at .t) (c .before .before .before .before .before .before .before .before .before .before .operations .result) (at .inits .now) s)) (c .before .before .before .before .before .width .ensures) in
-    omega (arith, few, count, length-drop (7 * at .t) out, c .before .before .before .before .before .before .before .before .before .before .operations .kept, c .before .before .before .before .before .before .before .before .before .before .before .before .before .before .before .before .before .before .before .before .before .good, c .before .before .before .before .before .before .before .before .before .before .before .before .before .before .before .before .before .before .before .before .before .pre)
+    omega (arith, few, count, length-drop (7 * at .t) out, c .before .before .before .before .before .before .before .before .before .before .operations .kept, c .before .before .before .before .before .before .before .before .before .before .before .before .before .before .before .before .before .good, c .before .before .before .before .before .before .before .before .before .before .before .before .before .before .before .before .before .pre)
 
 same-length : tie.Need-same-length
 same-length c = search needs
@@ -76,21 +73,21 @@ same-length-2 : tie.Need-same-length-2
 same-length-2 c = search needs
 
 returns : tie.Need-returns
-returns c = let at = c .before .before .before .before .before .before .before .before .before .before .before .before .before .before .before .before .before .before .before .before .before .args in
+returns c = let at = c .before .before .before .before .before .before .before .before .before .before .before .before .before .before .before .before .before .args in
     let out = c .before .before .before .before .before .before .before .before .before .before .operations .last .1 .1 .1 .1 .1 .0 in
     let s = c .before .before .before .before .before .before .before .before .before .before .operations .last .1 .1 .1 .1 .1 .1 .0 in
     let done = c .before .before .before .before .before .before .before .before .before .before .operations .ensures in
     let few = ending-room (at .m) (widthOf (at .m) (at .n) (at .t)) (at .t) (c .before .before .before .before .before .before .before .before .before .before .operations .result) (at .inits .now) s (drop (7 * at .t) out) (done .fits) in
     let count : c .before .before .finish .result ≡ length (ending (at .m) (widthOf (at .m) (at .n) (at .t)) (at .t) (c .before .before .before .before .before .before .before .before .before .before .operations .result) (at .inits .now) s) =
     c .before .before .finish .ensures .1 ∙ ap (λ (w : ℕ). length (ending (at .m) w (at .t) (c .before .before .before .before .before .before .before .before .before .before .operations .result) (at .inits .now) s)) (c .before .before .before .before .before .width .ensures) in (
-      laid-lent out _ (7 * at .t) (ending (at .m) (c .before .before .before .before .before .width .result) (at .t) (c .before .before .before .before .before .before .before .before .before .before .operations .result) (at .inits .now) s) (omega (arith, c .before .before .before .before .before .before .before .before .before .before .operations .kept, c .before .before .before .before .before .before .before .before .before .before .before .before .before .before .before .before .before .before .before .before .before .pre .0 .out-room)) (c .before .before .finish .ensures .0)
+      laid-lent out _ (7 * at .t) (ending (at .m) (c .before .before .before .before .before .width .result) (at .t) (c .before .before .before .before .before .before .before .before .before .before .operations .result) (at .inits .now) s) (omega (arith, c .before .before .before .before .before .before .before .before .before .before .operations .kept, c .before .before .before .before .before .before .before .before .before .before .before .before .before .before .before .before .before .pre .0 .out-room)) (c .before .before .finish .ensures .0)
           ∙ ap (λ (w : ℕ). laid out (7 * at .t) (ending (at .m) w (at .t) (c .before .before .before .before .before .before .before .before .before .before .operations .result) (at .inits .now) s)) (c .before .before .before .before .before .width .ensures)
           ∙ sym (done .whole),
       (
         ap (λ (c : ℕ). at .t + c) (c .before .before .finish .ensures .1)
             ∙ ap (λ (w : ℕ). at .t + length (ending (at .m) w (at .t) (c .before .before .before .before .before .before .before .before .before .before .operations .result) (at .inits .now) s)) (c .before .before .before .before .before .width .ensures)
             ∙ sym (done .counted),
-        omega (arith, few, count, length-drop (7 * at .t) out, c .before .before .before .before .before .before .before .before .before .before .operations .kept, c .before .before .before .before .before .before .before .before .before .before .before .before .before .before .before .before .before .before .before .before .before .good, c .before .before .before .before .before .before .before .before .before .before .before .before .before .before .before .before .before .before .before .before .before .pre),
+        omega (arith, few, count, length-drop (7 * at .t) out, c .before .before .before .before .before .before .before .before .before .before .operations .kept, c .before .before .before .before .before .before .before .before .before .before .before .before .before .before .before .before .before .good, c .before .before .before .before .before .before .before .before .before .before .before .before .before .before .before .before .before .pre),
       ),
     )
 
@@ -98,7 +95,6 @@ pub rows-after-spec : {M : Type 1} → statement M
 rows-after-spec =
     tie.close
     (tie.spec
-    prepare-requires
     operations-requires
     mul-from
     width-requires
