@@ -26,7 +26,7 @@ use Rattle.memory.specs.Equations.{Lists, listsOf, shuffleLists, rangedL
 use Rattle.memory.specs.File.{noRow, parsedRow, rowsOf, parseRows, Refusal, refusal, firstFault, valuesFault}
 use Rattle.memory.specs.Plain.{start, right}
 use Rattle.memory.specs.Honest.{Input, inputOf, bare, filledRows, possible}
-use Rattle.memory.specs.Bound.{accepts, malformed, rowsIn, traceIn, Advised}
+use Rattle.memory.specs.Bound.{elements, accepts, malformed, rowsIn, traceIn, Advised}
 use Rattle.memory.specs.Statements.{Holds}
 use Rattle.memory.proofs.HonestLookups.{rom-complete, set-complete}
 use Rattle.memory.proofs.RamComplete.{ram-complete, ram-range-complete}
@@ -155,23 +155,23 @@ well-sized q m n t lines e =
     both-pass (allBelow q (n ∷ t ∷ [])) (allowed m n t) (not-false (allBelow q (n ∷ t ∷ []) && allowed m n t) (neither (not (allBelow q (n ∷ t ∷ []) && allowed m n t)) _ e))
 
 pub values-pass : (q : ℕ) (m : Memory) (n t : ℕ) (ch : Challenge) → allBelow q (n ∷ t ∷ []) ≡ true → allowed m n t ≡ true
-    → allBelow q (ch .r ∷ ch .a ∷ ch .b ∷ ch .c ∷ []) ≡ true
+    → elements q ch ≡ true
     → valuesFault q m n t ch ≡ 0
 unfolding valuesFault allBelow
-values-pass q m n t ch below fit elements =
+values-pass q m n t ch below fit inside =
     let size = both-pass (ltb n q) (ltb t q && true) below in
     let count = both-pass (ltb t q) true (size .1) in
-    rw (size .0, count .0, elements, fit)
+    rw (size .0, count .0, inside, fit)
 
 -- rows whose advice is the filler's meet the equations at every challenge; that the trace is right need not be supposed, since the filler fills no other runs
 pub advised-holds : (q : ℕ) (m : Memory) (n t : ℕ) (lines : List Line) → Prime q → t + 1 < q → malformed q m n t lines ≡ false → Advised q m n t (rowsIn q lines)
-    → (ch : Challenge) → allBelow q (ch .r ∷ ch .a ∷ ch .b ∷ ch .c ∷ []) ≡ true → Holds q m n t ch lines
-advised-holds q m n t lines prime room formed a ch elements =
+    → (ch : Challenge) → elements q ch ≡ true → Holds q m n t ch lines
+advised-holds q m n t lines prime room formed a ch inside =
     let fit = well-sized q m n t lines formed in
     let advice = filled-advice q m n t (rowsIn q lines) prime room (advised-rows q m n t (rowsIn q lines) a) in
     let balances = balancing-balances q ch (fileLists q m n t (rowsIn q lines)) (advice .balancing) in
     record {
-      values = values-pass q m n t ch (fit .0) (fit .1) elements;
+      values = values-pass q m n t ch (fit .0) (fit .1) inside;
       rows = parts-lines q m n t lines (omega arith) (advice .parts);
       range = balances .0;
       memory = balances .1;
@@ -180,6 +180,6 @@ advised-holds q m n t lines prime room formed a ch elements =
 -- the clause of demand 3 on a right trace whose advice is the filler's
 pub honest-clause : (q : ℕ) (m : Memory) (n t : ℕ) (lines : List Line) → Prime q → t + 1 < q
     → malformed q m n t lines ≡ false → right (traceIn q m n t lines) ≡ true → Advised q m n t (rowsIn q lines)
-    → (ch : Challenge) → allBelow q (ch .r ∷ ch .a ∷ ch .b ∷ ch .c ∷ []) ≡ true → accepts q m n t lines ch ≡ true
-honest-clause q m n t lines prime room formed fit a ch elements =
-    accepts-exactly-when q m n t ch lines (omega arith) .1 (advised-holds q m n t lines prime room formed a ch elements)
+    → (ch : Challenge) → elements q ch ≡ true → accepts q m n t lines ch ≡ true
+honest-clause q m n t lines prime room formed fit a ch inside =
+    accepts-exactly-when q m n t ch lines (omega arith) .1 (advised-holds q m n t lines prime room formed a ch inside)

@@ -27,6 +27,7 @@ use Rattle.memory.specs.File.{parsedRow, rowsOf, parseRows, refusal, acc
 use Rattle.memory.specs.Honest.{Input, filledRows}
 use Rattle.memory.specs.Print.{numberText, rowsText, filledText, headerText}
 use Rattle.memory.specs.Step.{runOf, freshOf, endOf, reportOf}
+use Rattle.memory.specs.Bound.{elements}
 use Rattle.memory.specs.Statements.{Fillable, acceptance, HonestFileAccepted, HonestRunAccepted}
 use Rattle.memory.proofs.Fold.{run-is-file}
 use Rattle.memory.proofs.Phases.{Parts, parts-no-fault}
@@ -204,7 +205,7 @@ unfolding p
 field-prime = prime-p
 
 -- What the filler writes, at the prime of document 01.
-module _ (m : Memory) (n t : ℕ) (inits ops : List Input) (ch : Challenge) (f : Fillable m n t inits ops) (elements : allBelow p (ch .r ∷ ch .a ∷ ch .b ∷ ch .c ∷ []) ≡ true) where
+module _ (m : Memory) (n t : ℕ) (inits ops : List Input) (ch : Challenge) (f : Fillable m n t inits ops) (inside : elements p ch ≡ true) where
   rows : List Row
   rows = filledRows m t inits ops
 
@@ -227,11 +228,11 @@ module _ (m : Memory) (n t : ℕ) (inits ops : List Input) (ch : Challenge) (f :
   counts-below = rw (lt-ltb n p (small .0), lt-ltb t p (omega (arith, small .1)))
 
   pass : valuesFault p m n t ch ≡ 0
-  pass = values-pass p m n t ch counts-below (f .fit) elements
+  pass = values-pass p m n t ch counts-below (f .fit) inside
 
   values : allBelow p (valuesIn n t ch) ≡ true
   unfolding allBelow valuesIn
-  values = rw (lt-ltb n p (small .0), lt-ltb t p (omega (arith, small .1)), elements)
+  values = rw (lt-ltb n p (small .0), lt-ltb t p (omega (arith, small .1)), inside)
 
   parts : Parts p m n t rows
   unfolding rows
@@ -253,9 +254,9 @@ module _ (m : Memory) (n t : ℕ) (inits ops : List Input) (ch : Challenge) (f :
 -- As bytes, behind the header.
 pub honest-file-accepted : HonestFileAccepted
 unfolding rows
-honest-file-accepted m n t inits ops ch f elements = file-accepted m n t inits ops ch f elements
+honest-file-accepted m n t inits ops ch f inside = file-accepted m n t inits ops ch f inside
 
 -- And row by row.
 pub honest-run-accepted : HonestRunAccepted
 unfolding rows
-honest-run-accepted m n t inits ops ch f elements = run-accepted m n t inits ops ch f elements
+honest-run-accepted m n t inits ops ch f inside = run-accepted m n t inits ops ch f inside

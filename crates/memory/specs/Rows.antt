@@ -184,29 +184,40 @@ depthProduct q up down (row ∷ rows) =
     times q (depthFactor q up down row)
     (depthProduct q (up + raiseBy (row .op) (row .guard)) (down + lowerBy (row .op) (row .guard)) rows)
 
--- 8: "the queue's depth product is 0, or the stack's depth is below 0", of all operations
-unfoldable pub sunk : ℕ → Memory → List Row → Bool
-sunk q Ram rows = false
-sunk q Rom rows = false
-sunk q Set rows = false
-sunk q Stack rows = ltb (raised rows) (lowered rows)
-sunk q Queue rows = eqb (depthProduct q 0 0 rows) 0
+-- 8: "the queue's depth product is 0, or the stack's depth is below 0", by how often the depth rose and fell and by that product; and of all operations
+abbrev pub sunkBy : Memory → ℕ → ℕ → ℕ → Bool
+sunkBy Ram up down product = false
+sunkBy Rom up down product = false
+sunkBy Set up down product = false
+sunkBy Stack up down product = ltb up down
+sunkBy Queue up down product = eqb product 0
 
--- how many rows are due in all, by the rows that have passed
+unfoldable pub sunk : ℕ → Memory → List Row → Bool
+sunk q m rows = sunkBy m (raised rows) (lowered rows) (depthProduct q 0 0 rows)
+
+-- how many rows are due in all, by how often the depth rose and fell; and by the rows that have passed
+abbrev pub dueBy : Memory → ℕ → ℕ → ℕ → ℕ → ℕ
+dueBy m n t up down = n + t + endsDue m n up down + rangesDue m t
+
 unfoldable pub dueAfter : Memory → ℕ → ℕ → List Row → ℕ
-dueAfter m n t rows = n + t + endsDue m n (raised rows) (lowered rows) + rangesDue m t
+dueAfter m n t rows = dueBy m n t (raised rows) (lowered rows)
+
+-- the phase of the next row, by the same and by how many rows have passed
+abbrev pub phaseBy : Memory → ℕ → ℕ → ℕ → ℕ → ℕ → Phase
+phaseBy m n t up down k = phaseAt n t (endsDue m n up down) (rangesDue m t) k
 
 unfoldable pub phaseAfter : Memory → ℕ → ℕ → List Row → Phase
-phaseAfter m n t rows = phaseAt n t (endsDue m n (raised rows) (lowered rows)) (rangesDue m t) (length rows)
+phaseAfter m n t rows = phaseBy m n t (raised rows) (lowered rows) (length rows)
 
--- the fault of a row after the rows that have passed, or 0: 5 and 6, and at the last operation row 8
+-- the fault of the row after k rows, or 0, by whether its op is due, whether it has its form, and whether the depth is sunk with it: 5 and 6, and "at the last
+-- operation row" 8
+abbrev pub faultBy : ℕ → ℕ → ℕ → Bool → Bool → Bool → ℕ
+faultBy n t k due form sunk = cond due (cond form (cond (leb 1 t && (eqb (k + 1) (n + t) && sunk)) 8 0) 6) 5
+
+-- the fault of a row after the rows that have passed
 unfoldable pub rowFault : ℕ → Memory → ℕ → ℕ → List Row → Row → ℕ
 rowFault q m n t rows row =
-    cond (opIn (row .op) (opsDue m (phaseAfter m n t rows)))
-    (cond (formed m row)
-    (cond (leb 1 t && (eqb (length rows + 1) (n + t) && sunk q m (rows ++ row ∷ []))) 8 0)
-    6)
-    5
+    faultBy n t (length rows) (opIn (row .op) (opsDue m (phaseAfter m n t rows))) (formed m row) (sunk q m (rows ++ row ∷ []))
 
 -- the fault of what a line reads as, "on one line, table order": a row with a number of q or more is 3, before 5 and 6; where a line reads as no row, its
 -- fault is 3 or else 2

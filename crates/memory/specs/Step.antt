@@ -4,7 +4,7 @@
 use Prim.Native.Nat.{ℕ, _+_, _-_, min}
 use mathlib.Core.Bool.{Bool, true, false, _&&_, not, cond}
 use mathlib.Core.List.{List, [], _∷_, _++_, map}
-use lib.Dec.{eqb, leb, ltb}
+use lib.Dec.{eqb, ltb}
 use Rattle.algebra.specs.Modulo.{times}
 use Rattle.algebra.specs.Hash.{hashFrom}
 use Rattle.memory.specs.declared.Memory.{Memory}
@@ -22,7 +22,7 @@ use Rattle.memory.specs.declared.State.{State}
 use Rattle.memory.specs.declared.Report.{Report}
 use Rattle.memory.specs.Bytes.{Line}
 use Rattle.memory.specs.Names.{isOp}
-use Rattle.memory.specs.Rows.{raiseBy, lowerBy, endsDue, rangesDue, phaseAt, opsDue, opIn, formed, depthFactor, rowBelow, parseRow}
+use Rattle.memory.specs.Rows.{raiseBy, lowerBy, endsDue, opsDue, opIn, formed, depthFactor, rowBelow, parseRow, sunkBy, dueBy, phaseBy, faultBy}
 use Rattle.memory.specs.Equations.{Triple, Lookup, factor, initWrite, lookRead, lookWrite, romEnd, setInit, memberRead, memberWrite, rangeSet, rangeRead, rangeWrite, rangeEnd, accessRead, accessWrite, accessLookup, cellEnd, pushWrite, popRead, popLookup, enqueueElements, dequeueElements, endElement}
 use Rattle.memory.specs.Gates.{rowInputs, rowMults}
 use Rattle.memory.specs.File.{headLines, firstLine, refused, valuesFault, Opening, opens, shut}
@@ -40,10 +40,10 @@ takesRows c = not (c .ended) && eqb (c .answer) 0
 
 -- the rows due in all, and the phase of the next row
 unfoldable pub due : Context → ℕ
-due c = c .size + c .count + endsDue (c .memory) (c .size) (c .pushed) (c .popped) + rangesDue (c .memory) (c .count)
+due c = dueBy (c .memory) (c .size) (c .count) (c .pushed) (c .popped)
 
 unfoldable pub phase : Context → Phase
-phase c = phaseAt (c .size) (c .count) (endsDue (c .memory) (c .size) (c .pushed) (c .popped)) (rangesDue (c .memory) (c .count)) (c .passed)
+phase c = phaseBy (c .memory) (c .size) (c .count) (c .pushed) (c .popped) (c .passed)
 
 -- a refusal on a line
 unfoldable pub refuseAt : Context → ℕ → ℕ → Context
@@ -88,23 +88,12 @@ pass q c row = record {
 
 -- 8, of the context after a row: "the queue's depth product is 0, or the stack's depth is below 0"
 unfoldable pub sinks : Context → Bool
-sinks c = sinksIn (c .memory)
-  where
-    sinksIn : Memory → Bool
-    sinksIn Ram = false
-    sinksIn Rom = false
-    sinksIn Set = false
-    sinksIn Stack = ltb (c .pushed) (c .popped)
-    sinksIn Queue = eqb (c .depths) 0
+sinks c = sunkBy (c .memory) (c .pushed) (c .popped) (c .depths)
 
 -- the fault of the next row, or 0
 unfoldable pub stepFault : ℕ → Context → Row → ℕ
 stepFault q c row =
-    cond (opIn (row .op) (opsDue (c .memory) (phase c)))
-    (cond (formed (c .memory) row)
-    (cond (leb 1 (c .count) && (eqb (c .passed + 1) (c .size + c .count) && sinks (pass q c row))) 8 0)
-    6)
-    5
+    faultBy (c .size) (c .count) (c .passed) (opIn (row .op) (opsDue (c .memory) (phase c))) (formed (c .memory) row) (sinks (pass q c row))
 
 -- the clock of a ram's next access
 unfoldable pub ramClock : Context → ℕ
