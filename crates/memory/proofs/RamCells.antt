@@ -74,7 +74,7 @@ set-same (x ∷ xs) (suc k) d = ap {B = List ℕ} (λ l. x ∷ l) (set-same xs k
 -- a store or load at an address of the content, whose old is what stands there, fits
 fits-at : (b : Bool) (content : List ℕ) (a v o : ℕ) → a < length content → getD content a 0 ≡ o → fits content (cond b (store a v) (load a v o)) ≡ true
 unfolding fits
-fits-at true content a v o h e = lt-ltb a (length content) h
+fits-at true content a v o h e = simp (lt-ltb a (length content) h)
 fits-at false content a v o h e = rw (lt-ltb a (length content) h) (eq-eqb o (getD content a 0) (sym e))
 
 -- after it the stored value stands there, or what stood there
