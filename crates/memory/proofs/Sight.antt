@@ -1,4 +1,4 @@
--- What is not refused on sight: of rows that have their form and whose numbers are elements, op and guard alone decide whether a line is refused.
+-- What is not refused on sight: of rows that have their form and whose numbers are elements, op and guard alone decide a line's fault.
 -- Assumes nothing.
 use Prim.Native.Nat.{ℕ, _+_}
 use mathlib.Core.Path.{_≡_, refl, ap, ap₂}

@@ -14,7 +14,7 @@ use Rattle.memory.specs.Text.{bytes}
 use Rattle.memory.specs.Bytes.{Line, same, feed, linesOf}
 use Rattle.memory.specs.Names.{reportNames}
 use Rattle.memory.specs.Equations.{product, fileLists}
-use Rattle.memory.specs.File.{rowsOf, parseRows, Opening, opens, shut, parseValues, fileReport}
+use Rattle.memory.specs.File.{headLines, rowsOf, parseRows, Opening, opens, shut, parseValues, fileReport}
 use Rattle.memory.specs.Bound.{accepts, challenge}
 use Rattle.memory.specs.Print.{reportText}
 
@@ -80,7 +80,7 @@ CasesHold = T (allReported cases)
 
 -- "With challenge 100,0,0,0 as well: …, one of the counted challenges.": it accepts the changed rows. (Cases: counted-challenge)
 abbrev pub CountedChallenge : Type 0
-CountedChallenge = accepts p Ram 2 2 (drop 3 (linesOf (bytes (changedCase .file)))) (challenge 100 0 0 0) ≡ true
+CountedChallenge = accepts p Ram 2 2 (drop headLines (linesOf (bytes (changedCase .file)))) (challenge 100 0 0 0) ≡ true
 
 -- the products of a file's lists: of the records written and read, and of the range's pairs written and read
 unfoldable pub openedProducts : ℕ → Opening → List Row → List ℕ
@@ -91,7 +91,7 @@ openedProducts q (shut f) rows = []
 
 unfoldable pub productsOf : ℕ → List Line → List ℕ
 productsOf q lines =
-    openedProducts q (parseValues q (getD lines 1 (record { text = []; ended = false }))) (rowsOf (parseRows q (drop 3 lines)))
+    openedProducts q (parseValues q (getD lines 1 (record { text = []; ended = false }))) (rowsOf (parseRows q (drop headLines lines)))
 
 -- "Memory products 48405600, range 89403930." (Cases: ram-products)
 abbrev pub RamProducts : Type 0

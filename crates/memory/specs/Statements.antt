@@ -20,7 +20,7 @@ use Rattle.memory.specs.Bytes.{Line, linesOf}
 use Rattle.memory.specs.Rows.{allowed, raised, lowered, rangesDue, initRows, formed, rowBelow, lineFault}
 use Rattle.memory.specs.Equations.{fileLists, rangeBalances, memoryBalances}
 use Rattle.memory.specs.Gates.{inputsOf, multsOf, factorsOf, choicesOf, hashesOf, depthsOf, guarded, skippedWith, rowsWith, inputsFormula, multsFormula, puts, takes}
-use Rattle.memory.specs.File.{firstFault, refusal, parseRows, valuesFault, valuesReport, fileReport}
+use Rattle.memory.specs.File.{headLines, firstFault, refusal, parseRows, valuesFault, valuesReport, fileReport}
 use Rattle.memory.specs.Plain.{right, traceOf}
 use Rattle.memory.specs.Honest.{Input, initInputs, operationInputs, filledRows, refilledRows}
 use Rattle.memory.specs.Step.{takesRows, stepOf, endOf, stepsOf, runOf, freshOf, reportOf}
@@ -46,7 +46,7 @@ RunIsFile =
     → reportOf (endOf (runOf q (freshOf q m n t ch) lines)) ≡ valuesReport q m n t ch (parseRows q lines)
 
 -- "a false restatement is not refused on sight", "An access outside a ram or rom is not refused on sight": of rows that have their form and whose numbers are
--- elements, op and guard alone decide whether a line is refused. (Sight: fault-by-form)
+-- elements, op and guard alone decide a line's fault. (Sight: fault-by-form)
 abbrev pub FaultByForm : Type 0
 FaultByForm =
     (q : ℕ) (m : Memory) (n t : ℕ) (rows : List Row) (x y : Row) → x .op ≡ y .op → x .guard ≡ y .guard
@@ -136,7 +136,7 @@ abbrev pub DemandThree : Type 0
 DemandThree = (m : Memory) (n t : ℕ) (lines : List Line) → Demand p m n t lines
 
 -- The honest prover's rules, over the rows of a well-formed file. Where the trace is right, they refuse no row and give rows that are complete and well-formed, with
--- the same trace. (HonestRows: honest-rows)
+-- the same trace and the filler's advice. (HonestRows: honest-rows)
 pub record HonestRun (q : ℕ) (m : Memory) (n t : ℕ) (rows : List Row) : Type 0 where
   pub fills : rowsFault q m (map (λ row. row .value) (initRows n rows)) 1 (initInputs n rows) (operationInputs n t rows) .number ≡ 0
   pub complete :
@@ -213,7 +213,7 @@ pub record FillAccepted (bytes : List ℕ) : Type 0 where
   pub inits : List Input
   pub ops : List Input
   pub asked : parseJob p (getD (linesOf bytes) 1 (record { text = []; ended = false })) ≡ job memory size count
-  pub given : inputsOfLines (map (parseInput p) (drop 3 (linesOf bytes))) ≡ inits ++ ops
+  pub given : inputsOfLines (map (parseInput p) (drop headLines (linesOf bytes))) ≡ inits ++ ops
   pub fillable : Fillable memory size count inits ops
   pub printed : fillText p bytes ≡ filledText (filledRows memory count inits ops)
   pub accepted :

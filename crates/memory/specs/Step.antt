@@ -62,7 +62,7 @@ refuseAt c f l = record {
   ended = c .ended;
 }
 
--- on the line of the next row, and of the last one that has passed
+-- a refusal on the line of the next row, and of the last one that has passed
 unfoldable pub refuseNext : Context → ℕ → Context
 refuseNext c f = refuseAt c f (raise (c .passed) firstLine)
 
