@@ -41,7 +41,7 @@ module _ (out : List ℕ) {filled : Filled} where
   refused-answer {f} {k} e some = rw (e, ne-eqb f 0 some) refl
 
 -- where the lines end, size and count are those of the value line
-pub end-due : (i : Intake) → rowsDue (endTaken i) ≡ rowsDue i
+end-due : (i : Intake) → rowsDue (endTaken i) ≡ rowsDue i
 unfolding rowsDue
 end-due i = let same = end-values i in omega (arith, same .1, same .2)
 

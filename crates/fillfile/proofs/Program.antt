@@ -12,11 +12,11 @@ use lib.Seq.{take-suc, take-all}
 use borrow.Author.Tests.{eq-eqb, le-leb}
 use Rattle.field.specs.Field.{p}
 use Rattle.memory.specs.declared.Memory.{Memory}
-use Rattle.memory.specs.declared.Op.the-variants.{Init}
 use Rattle.memory.specs.declared.Row.{Row}
 use Rattle.memory.specs.declared.Intake.{Intake}
 use Rattle.memory.specs.declared.Phase.the-variants.{Starting}
 use Rattle.memory.specs.Rows.{allowed, opsDue}
+use Rattle.memory.specs.File.{noRow}
 use Rattle.memory.specs.Plain.{start, after}
 use Rattle.memory.specs.Step.{top, raise}
 use Rattle.memory.specs.Honest.{Input, filledRows, inputOperation}
@@ -31,7 +31,7 @@ use Rattle.memory.proofs.Pieces.{last-cut}
 use Rattle.memory.proofs.FillStream.{Fitted, fitted-end, end-values, cut-line, fill-limited, fill-stream-is-text}
 use Rattle.memory.proofs.FillLength.{fill-text-short}
 use Rattle.pieces.specs.Block.{LinesTaken}
-use Rattle.pieces.specs.Calls.{joined}
+use Rattle.pieces.specs.Calls.{started, joined}
 use Rattle.pieces.proofs.Feeds.{block-read}
 use Rattle.pieces.proofs.Calls.{calls-read}
 use Rattle.print.specs.declared.Put.{Put}
@@ -45,16 +45,13 @@ use Rattle.fillfile.specs.Statements.{PiecesAreText}
 use Rattle.fillfile.proofs.Texts.{Putting}
 
 -- the rows that are read back from their numbers
-noRow : Row
-noRow = record { op = Init; guard = 0; addr = 0; value = 0; old = 0; time = 0; version = 0 }
-
 first-rows : (rows : List Row) (rest : List ℕ) (k : ℕ) → k ≤ length rows → outputRows k (rowNumbers rows ++ rest) ≡ take k rows
 unfolding outputRows
 first-rows rows rest zero h = refl
 first-rows rows rest (suc k) h =
     rw (first-rows rows rest k (omega arith), row-in-numbers rows rest k noRow h) (sym (take-suc rows k noRow h))
 
-pub all-rows : (rows : List Row) (rest : List ℕ) → outputRows (length rows) (rowNumbers rows ++ rest) ≡ rows
+all-rows : (rows : List Row) (rest : List ℕ) → outputRows (length rows) (rowNumbers rows ++ rest) ≡ rows
 all-rows rows rest = first-rows rows rest (length rows) (omega arith) ∙ take-all (length rows) rows (omega arith)
 
 -- a refusal's place is at most the number of rows
@@ -113,7 +110,7 @@ module _ (m : Memory) (n t : ℕ) (ws out scratch : List ℕ) (fit : allowed m n
       omega (arith, rows-placed p m (map (λ i. i .value) inits) 1 inits ops, halves, inputs-short ws)
 
   -- so what is printed of what it leaves is what is printed of the rows
-  pub fill-text : endedBy (fillOf p (memoryCode m) n t ws out scratch) .text ≡ runText p m n t (inputsIn ws)
+  fill-text : endedBy (fillOf p (memoryCode m) n t ws out scratch) .text ≡ runText p m n t (inputsIn ws)
   unfolding endedBy filledOr fillRows runText filledWith rowRefused inits ops
   fill-text = rw fills (go (eqb (f .number) 0) refl)
     where
@@ -161,7 +158,7 @@ module _ (out scratch : List ℕ) (wide : 4480 ≤ length out) (deep : 640 ≤ l
       go false = refl
 
   -- so the program prints what its definition says of its input
-  pub program-text : (input words : List ℕ) → 1024 ≤ length words
+  program-text : (input words : List ℕ) → 1024 ≤ length words
       → endingOf (endIn (lineTaken p) (bytesIn (lineTaken p) (unfilled words) input)) out scratch .text ≡ fillText p input
   unfolding fillEnd fillLimit
   program-text input words many =
@@ -190,10 +187,10 @@ module _ (out scratch : List ℕ) (wide : 4480 ≤ length out) (deep : 640 ≤ l
 
 -- an input in pieces, where there is room for all
 pub pieces-are-text : PiecesAreText
-unfolding leftBy begun unfilled endOf fillLimit room
+unfolding leftBy begun unfilled endOf fillLimit room started
 pieces-are-text words buffer calls h stored out filled scratch cleared text printed r lent finished =
     let input = joined calls in
-    let read = calls-read (lineTaken p) (gathered untaken words) buffer calls h in
+    let read = calls-read Gathered (lineTaken p) (gathered untaken words) buffer calls h in
     let same = ap (λ (v : Piece Gathered). endingOf (endIn (lineTaken p) v) out scratch .text) read ∙ program-text out scratch (lent .output) (lent .counts) input words (lent .rows) in
     let put = put-text text 0 same (finished .ended .answer, finished .ended .bytes) in
     let whole = put-whole text (fillText p input) (omega (arith, fill-text-short p input, lent .bytes)) put in

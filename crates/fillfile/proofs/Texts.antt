@@ -22,7 +22,7 @@ abbrev pub Putting : List ℕ → ℕ → List ℕ → Put → List ℕ → Type
 Putting buf at s r after = (r ≡ putOf (length buf) at s) × (after ≡ written buf at s)
 
 -- no text
-pub put-none : (buf : List ℕ) (at : ℕ) → at ≤ length buf → Putting buf at [] (At at) buf
+put-none : (buf : List ℕ) (at : ℕ) → at ≤ length buf → Putting buf at [] (At at) buf
 put-none buf at h =
     let none : at ≡ at + length {A = ℕ} [] = omega arith in (
       ap At none ∙ fits-at (length buf) at [] (omega arith),
@@ -34,11 +34,11 @@ put-none buf at h =
     )
 
 -- a text after one that fitted, and after one that did not
-pub put-more : (buf : List ℕ) (at mid : ℕ) (s t : List ℕ) {r : Put} {between after : List ℕ} → Putting buf at s (At mid) between → Putting between mid t r after
+put-more : (buf : List ℕ) (at mid : ℕ) (s t : List ℕ) {r : Put} {between after : List ℕ} → Putting buf at s (At mid) between → Putting between mid t r after
     → Putting buf at (s ++ t) r after
 put-more buf at mid s t {r} {between} {after} first second = put-then buf at s t first (more-at between mid t refl second)
 
-pub put-cut : (buf : List ℕ) (at : ℕ) (s t : List ℕ) {after : List ℕ} → Putting buf at s Full after → Putting buf at (s ++ t) Full after
+put-cut : (buf : List ℕ) (at : ℕ) (s t : List ℕ) {after : List ℕ} → Putting buf at s Full after → Putting buf at (s ++ t) Full after
 put-cut buf at s t {after} first = put-then buf at s t first (more-full after t refl)
 
 rows-text-append : (xs ys : List Row) → rowsText (xs ++ ys) ≡ rowsText xs ++ rowsText ys
@@ -47,7 +47,7 @@ rows-text-append [] ys = refl
 rows-text-append (x ∷ xs) ys = ap (λ (l : List ℕ). rowText x ++ l) (rows-text-append xs ys) ∙ sym (append-assoc (rowText x) (rowsText xs) (rowsText ys))
 
 -- one row more
-pub output-more : (out : List ℕ) (k : ℕ) → rowsText (outputRows k out) ++ rowText (rowIn out k) ≡ rowsText (outputRows (suc k) out)
+output-more : (out : List ℕ) (k : ℕ) → rowsText (outputRows k out) ++ rowText (rowIn out k) ≡ rowsText (outputRows (suc k) out)
 unfolding outputRows rowsText
 output-more out k =
     ap (λ (l : List ℕ). rowsText (outputRows k out) ++ l) (sym (append-nil (rowText (rowIn out k))))

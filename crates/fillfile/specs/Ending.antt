@@ -24,9 +24,9 @@ unfoldable pub outputRows : ℕ → List ℕ → List Row
 outputRows zero ws = []
 outputRows (suc k) ws = outputRows k ws ++ rowIn ws k ∷ []
 
--- the rows that were written, or the refusal; "row k being line k + 3". Free, since document 01 gives these answers to the library alone: where the caller lends
--- fewer words than 4 for each row, or less output or scratch than 2n + 3T rows and words, the library answers 7, 14 or 15 with place 0, and that answer is printed on
--- line 3, with output and scratch as they were.
+-- the rows that were written, or the refusal; "row k being line k + 3". Free is what is printed of the library's answers with place 0, which document 01 gives to
+-- the library alone: 7, 14 and 15 where the caller lends fewer words than 4 for each row, or less output or scratch than 2n + 3T rows and words, and 4 where it hands on
+-- a size or count that no value line has. What holds then: the answer is printed on line 3, and output and scratch are as they were.
 unfoldable pub filledOr : ℕ → ℕ → ℕ → List ℕ → List ℕ
 filledOr answer place count output = cond (eqb answer 0) (filledText (outputRows count output)) (refusalText answer (raise place 3))
 

@@ -61,7 +61,7 @@ pub fn start() -> Progress
 pub fn advance(progress: Progress, buf: &mut [u8], filled: usize, words: &mut [u32]) -> Progress
     ensures { λ r. ⌜ Advanced (lineTaken p) (gathered (progress .intake) (now (words .entry))) filled (now (buf .entry)) (leftBy r (now (words .exit)) (now (buf .exit))) ⌝ }
 {
-    let end = pieces::smaller(filled, buf.len());
+    let end = lines::smaller(filled, buf.len());
     let taken = block::lines_in(progress.intake, &buf[..end], words);
     let used = taken.used;
     let intake = taken.intake;
@@ -69,8 +69,8 @@ pub fn advance(progress: Progress, buf: &mut [u8], filled: usize, words: &mut [u
     Progress { intake, kept }
 }
 
-// The end of input, with the kept bytes at the front of the buffer: what the program prints goes into the text. Where the caller lends fewer words than 4 for each
-// row, or less output or scratch than document 01 asks for, the library's 7, 14 or 15 is printed, on line 3; `fill` lends enough of each.
+// The end of input, with the kept bytes at the front of the buffer: what the program prints goes into the text. Free is what is printed where the
+// caller lends less than `fill` does: the library's 7, 14 or 15 on line 3, for too few words, too little output or too little scratch.
 pub fn finish(
     progress: Progress,
     buf: &[u8],
@@ -81,7 +81,7 @@ pub fn finish(
 ) -> Put
     ensures { λ r. ⌜ Finished (leftBy progress (now (words .entry)) (now (buf .entry))) (now (words .exit)) (now (out .entry)) (now (out .exit)) (now (scratch .entry)) (now (scratch .exit)) (now (text .entry)) (now (text .exit)) r ⌝ }
 {
-    let end = pieces::smaller(progress.kept, buf.len());
+    let end = lines::smaller(progress.kept, buf.len());
     let intake = ending::last(progress.intake, &buf[..end], words);
     ending::finish(intake, &words[..], out, scratch, text)
 }

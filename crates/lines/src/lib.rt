@@ -107,7 +107,8 @@ enum Known {
     Unknown,
 }
 
-fn smaller(a: usize, b: usize) -> usize
+// The smaller of two numbers.
+pub fn smaller(a: usize, b: usize) -> usize
     ensures { λ r. ⌜ r ≡ min a b ⌝ }
 {
     if a < b { a } else { b }

@@ -12,7 +12,8 @@ use Rattle.memory.specs.Bytes.{Line, longest}
 use Rattle.memory.specs.Pieces.{cut, Piece, piece, bytesIn, lastIn}
 use Rattle.memory.proofs.Pieces.{lineWith, Settled, settled-line, settled-bytes, read-again, pieces-cut}
 use Rattle.pieces.specs.Block.{restOf, fronted, LinesTaken}
-use Rattle.pieces.specs.Calls.{Left, standsFor, filledRead, Advanced, Call, Calls, joined, lastLeft}
+use Rattle.pieces.specs.Calls.{Left, started, standsFor, filledRead, Advanced, Call, Calls, joined, lastLeft}
+use Rattle.pieces.specs.Statements.{CallsRead}
 use Rattle.pieces.proofs.Parts.{take-within}
 use Rattle.pieces.proofs.Feeds.{block-read}
 
@@ -95,8 +96,7 @@ module _ {S : Type 0} (line : S → Line → S) where
       calls-more s (seen ++ c .bytes) (c .left) (call-more s seen l read c (h .0 .0) (h .0 .1)) cs (h .1)
       ∙ ap (bytesIn line (piece s [])) (append-assoc seen (c .bytes) (joined cs))
 
-  -- the calls from the start
-  pub calls-read : (s : S) (buffer : List ℕ) (cs : List (Call S)) → Calls line (record { known = s; kept = 0; buffer = buffer }) cs
-      → standsFor (lastLeft (record { known = s; kept = 0; buffer = buffer }) cs) ≡ bytesIn line (piece s []) (joined cs)
-  unfolding standsFor bytesIn piece
-  calls-read s buffer cs h = calls-more s [] (record { known = s; kept = 0; buffer = buffer }) refl cs h
+-- the calls from the start
+pub calls-read : CallsRead
+unfolding started standsFor bytesIn piece
+calls-read S line s buffer calls h = calls-more line s [] (started s buffer) refl calls h

@@ -15,7 +15,11 @@ pub record Left (S : Type 0) : Type 0 where
   pub kept : ℕ
   pub buffer : List ℕ
 
--- and what it stands for
+-- before the first call nothing is kept
+unfoldable pub started : {S : Type 0} → S → List ℕ → Left S
+started s buffer = record { known = s; kept = 0; buffer = buffer }
+
+-- what is left stands for what is known after some bytes
 unfoldable pub standsFor : {S : Type 0} → Left S → Piece S
 standsFor l = piece (l .known) (take (l .kept) (l .buffer))
 

@@ -1,2 +1,4 @@
 pub mod Block
 pub mod Calls
+pub mod Statements
+pub mod Promises

@@ -1,6 +1,6 @@
 // Lines in bytes that come in pieces: where a line ends, and what is kept of one that is not ended.
 ghost use mathlib.Core.Path.{_≡_};
-ghost use Prim.Native.Nat.{_+_, min};
+ghost use Prim.Native.Nat.{_+_};
 ghost use lib.ListN.{length, drop};
 ghost use Rattle.pieces.specs.Block.{untilFeed, restOf, fronted};
 
@@ -12,13 +12,6 @@ pub const BUFFER: usize = KEPT + 65536;
 
 // The byte that ends a line.
 const FEED: u8 = 10;
-
-// The smaller of two numbers.
-pub fn smaller(a: usize, b: usize) -> usize
-    ensures { λ r. ⌜ r ≡ min a b ⌝ }
-{
-    if a < b { a } else { b }
-}
 
 // The position of the first line feed from a position on. Where there is none, it is the block's length, or the position itself where that lies past the block.
 pub fn feed_from(block: &[u8], from: usize) -> usize
@@ -40,11 +33,11 @@ pub fn keep(buf: &mut [u8], from: usize, end: usize) -> usize
     ensures count { λ r. ⌜ r ≡ length (restOf from end (now (buf .entry))) ⌝ }
     ensures slice { λ _. ⌜ now (buf .exit) ≡ fronted (restOf from end (now (buf .entry))) (now (buf .entry)) ⌝ }
 {
-    let last = smaller(end, buf.len());
+    let last = lines::smaller(end, buf.len());
     if last <= from {
         return 0;
     }
-    let count = smaller(last - from, KEPT);
+    let count = lines::smaller(last - from, KEPT);
     let mut i = 0;
     while i < count {
         buf[i] = buf[from + i];

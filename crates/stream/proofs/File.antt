@@ -13,7 +13,7 @@ use Rattle.memory.specs.Stream.{lineOf, endReport, unopened, unread, finishOf}
 use Rattle.memory.proofs.Pieces.{last-cut}
 use Rattle.memory.proofs.Stream.{cut-line, stream-is-file}
 use Rattle.pieces.specs.Block.{LinesTaken}
-use Rattle.pieces.specs.Calls.{joined}
+use Rattle.pieces.specs.Calls.{started, joined}
 use Rattle.pieces.proofs.Feeds.{block-read}
 use Rattle.pieces.proofs.Calls.{calls-read}
 use Rattle.stream.specs.declared.Progress.{Progress}
@@ -27,9 +27,9 @@ modulus-above-one = lit≤ tt
 
 -- in pieces
 pub pieces-are-file : PiecesAreFile
-unfolding leftBy begun unread
+unfolding leftBy begun unread started
 pieces-are-file buffer calls h =
-    ap (finishOf p) (calls-read (lineOf p) unopened buffer calls h) ∙ stream-is-file p (joined calls) modulus-above-one
+    ap (finishOf p) (calls-read Stand (lineOf p) unopened buffer calls h) ∙ stream-is-file p (joined calls) modulus-above-one
 
 -- at once: its whole lines, and its last line if that is not ended
 pub whole-file : (file : List ℕ) (start : Progress) → start ≡ begun → (r : Stand) (used : ℕ) → LinesTaken (lineOf p) (start .stand) file r used
