@@ -19,11 +19,11 @@ use Rattle.filler.proofs.Inputs.{values-cons, values-count}
 use Rattle.filler.proofs.Laid.{laid-put}
 
 -- the words of an end row and of a range row
-pub end-words : (v o t n : ℕ) → _≡_ {A = List ℕ} (8 ∷ 0 ∷ 0 ∷ v ∷ o ∷ t ∷ n ∷ []) (rowNumbers (endRow v o t n ∷ []))
+end-words : (v o t n : ℕ) → _≡_ {A = List ℕ} (8 ∷ 0 ∷ 0 ∷ v ∷ o ∷ t ∷ n ∷ []) (rowNumbers (endRow v o t n ∷ []))
 unfolding rowNumbers endRow opCode
 end-words v o t n = refl
 
-pub range-words : (n : ℕ) → _≡_ {A = List ℕ} (9 ∷ 0 ∷ 0 ∷ 0 ∷ 0 ∷ 0 ∷ n ∷ []) (rowNumbers (rangeRow n ∷ []))
+range-words : (n : ℕ) → _≡_ {A = List ℕ} (9 ∷ 0 ∷ 0 ∷ 0 ∷ 0 ∷ 0 ∷ n ∷ []) (rowNumbers (rangeRow n ∷ []))
 unfolding rowNumbers rangeRow opCode
 range-words n = refl
 

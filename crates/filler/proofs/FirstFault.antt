@@ -106,7 +106,7 @@ unfolding operationFault faultAt
 fault-is q m values content i known =
     ap (λ (r : ℕ). cond (eqb (inputFault q m (opsDue m Operating) i) 0) r (inputFault q m (opsDue m Operating) i)) (refused m values content i known)
 
-pub scanned-fault : (q : ℕ) (m : Memory) (values content : List ℕ) (k : ℕ) (is : List Input) → Known m values content
+scanned-fault : (q : ℕ) (m : Memory) (values content : List ℕ) (k : ℕ) (is : List Input) → Known m values content
     → operationsFault q m content k is ≡ scanned q m values (length content) k is
 unfolding operationsFault scanned
 scanned-fault q m values content k [] known = refl

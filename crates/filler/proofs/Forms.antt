@@ -1,16 +1,18 @@
 -- The faults of a row by its words.
 --     coded           the number of the op that a number stands for
 --     is-coded        whether an op that a number stands for is one of the ten, by the number
---     init-form, operation-form    5 and 6 of a row by its words
+--     form-ram … form-init    what a row without fault is
 --     init-any        an init row has the same fault in every memory
 -- Assumes nothing.
 use Prim.Native.Nat.{ℕ, zero, suc, _≤_}
 use native.Mathlib.Omega.{arith}
-use mathlib.Core.Bool.{Bool, true, false, cond, _||_, _&&_, and-true, and-false, and-assoc}
+use mathlib.Core.Bool.{Bool, true, false, cond, _||_, _&&_}
+use mathlib.Core.Logic.{_⊎_, inl, inr}
 use mathlib.Core.Path.{_≡_, refl, sym, ap, _∙_}
-use mathlib.Core.List.{[], _∷_}
+use mathlib.Core.List.{List, [], _∷_}
 use lib.Dec.{eqb, leb}
-use borrow.Author.Tests.{eqb-true, ne-eqb, leb-true, leb-false, le-leb}
+use borrow.Author.Tests.{eqb-true, ne-eqb, leb-true, leb-false}
+use Rattle.field.specs.Field.{p}
 use Rattle.memory.specs.declared.Memory.{Memory}
 use Rattle.memory.specs.declared.Memory.the-variants.{Ram, Rom, Set, Stack, Queue}
 use Rattle.memory.specs.declared.Op.{Op}
@@ -21,7 +23,7 @@ use Rattle.memory.specs.Bytes.{allBelow}
 use Rattle.memory.specs.Rows.{opsDue, opIn, formed, used, columns, empty}
 use Rattle.memory.specs.Honest.{Input, bare, filledRow}
 use Rattle.memory.specs.Filler.{opCoded, inputFault}
-use Rattle.filler.specs.Scan.{single, initForm, form, initFault}
+use Rattle.filler.specs.Scan.{initFault}
 
 -- a number below 10 stands for an op of that number
 pub coded : (o : ℕ) → o ≤ 9 → opCode (opCoded o) ≡ o
@@ -60,86 +62,71 @@ is-coded o c h = go (leb o 9) refl
 abbrev pub input : ℕ → ℕ → ℕ → ℕ → Input
 input o g a v = record { op = opCoded o; guard = g; addr = a; value = v }
 
--- whether a row of four words is formed
-formedBy : Memory → ℕ → ℕ → ℕ → ℕ → Bool
-formedBy m o g a v = formed m (bare (input o g a v))
+-- ---- what a row without fault is
 
-zero-small : (g : ℕ) → (leb g 1 && eqb g 0) ≡ eqb g 0
-zero-small g = go (eqb g 0) refl
+form-sound : (q : ℕ) (m : Memory) (ops : List Op) (i : Input) → inputFault q m ops i ≡ 0 → (opIn (i .op) ops ≡ true) × (formed m (bare i) ≡ true)
+unfolding inputFault
+form-sound q m ops i = go (allBelow q (i .guard ∷ i .addr ∷ i .value ∷ [])) (opIn (i .op) ops) (formed m (bare i))
   where
-    go : (b : Bool) → eqb g 0 ≡ b → (leb g 1 && b) ≡ b
-    go true e = ap (λ (x : Bool). x && true) (le-leb g 1 (omega (arith, eqb-true g 0 e)))
-    go false e = and-false (leb g 1)
+    go : (a b c : Bool) → _≡_ {A = ℕ} (cond a (cond b (cond c 0 6) 5) 3) 0 → (b ≡ true) × (c ≡ true)
+    go true true true e = (refl, refl)
+    go true true false e = absurd (omega (arith, e))
+    go true false c e = absurd (omega (arith, e))
+    go false b c e = absurd (omega (arith, e))
 
-formed-init : (m : Memory) (g a v : ℕ) → formedBy m 0 g a v ≡ (eqb g 0 && eqb a 0)
-unfolding formedBy opCoded formed used columns empty bare filledRow
-formed-init m g a v = simp (and-true, zero-small)
+or-false-true : (b : Bool) → (b || false) ≡ true → b ≡ true
+or-false-true true e = refl
+or-false-true false e = e
 
-formed-access : (m : Memory) (g a v : ℕ) → formedBy m 1 g a v ≡ leb g 1
-unfolding formedBy opCoded formed used columns empty bare filledRow
-formed-access m g a v = simp and-true
+one-op : (o c : ℕ) → c ≤ 9 → (eqb (opCode (opCoded o)) c || false) ≡ true → o ≡ c
+one-op o c h e = eqb-true o c (sym (is-coded o c h) ∙ or-false-true _ e)
 
-formed-look : (m : Memory) (g a v : ℕ) → formedBy m 2 g a v ≡ (eqb g 0 && eqb v 0)
-unfolding formedBy opCoded formed used columns empty bare filledRow
-formed-look m g a v = simp (and-true, zero-small)
-
-formed-member : (m : Memory) (g a v : ℕ) → formedBy m 3 g a v ≡ (eqb g 0 && eqb a 0)
-unfolding formedBy opCoded formed used columns empty bare filledRow
-formed-member m g a v = simp (and-true, zero-small)
-
-formed-push : (m : Memory) (g a v : ℕ) → formedBy m 4 g a v ≡ (leb g 1 && eqb a 0)
-unfolding formedBy opCoded formed used columns empty bare filledRow
-formed-push m g a v = simp and-true
-
-formed-pop : (m : Memory) (g a v : ℕ) → formedBy m 5 g a v ≡ ((leb g 1 && eqb a 0) && eqb v 0)
-unfolding formedBy opCoded formed used columns empty bare filledRow
-formed-pop m g a v = simp (and-true, and-assoc)
-
-formed-enqueue : (m : Memory) (g a v : ℕ) → formedBy m 6 g a v ≡ (leb g 1 && eqb a 0)
-unfolding formedBy opCoded formed used columns empty bare filledRow
-formed-enqueue m g a v = simp and-true
-
-formed-dequeue : (m : Memory) (g a v : ℕ) → formedBy m 7 g a v ≡ ((leb g 1 && eqb a 0) && eqb v 0)
-unfolding formedBy opCoded formed used columns empty bare filledRow
-formed-dequeue m g a v = simp (and-true, and-assoc)
-
--- a row with one op due
-one-due : (o c : ℕ) (F f : Bool) → c ≤ 9 → (o ≡ c → F ≡ f) → cond (eqb (opCode (opCoded o)) c || false) (cond F 0 6) 5 ≡ single (eqb o c) f
-one-due o c F f h same = ap (λ (b : Bool). cond (b || false) (cond F 0 6) 5) (is-coded o c h) ∙ go (eqb o c) refl
+two-ops : (o c d : ℕ) → c ≤ 9 → d ≤ 9 → (eqb (opCode (opCoded o)) c || (eqb (opCode (opCoded o)) d || false)) ≡ true → (o ≡ c) ⊎ (o ≡ d)
+two-ops o c d h h′ e = go (eqb (opCode (opCoded o)) c) refl e
   where
-    go : (b : Bool) → eqb o c ≡ b → cond (b || false) (cond F 0 6) 5 ≡ single b f
-    go true e = ap (λ (b : Bool). cond b 0 6) (same (eqb-true o c e))
-    go false e = refl
+    go : (b : Bool) → eqb (opCode (opCoded o)) c ≡ b → (b || (eqb (opCode (opCoded o)) d || false)) ≡ true → (o ≡ c) ⊎ (o ≡ d)
+    go true t f = inl (eqb-true o c (sym (is-coded o c h) ∙ t))
+    go false t f = inr (one-op o d h′ f)
 
--- a row with two ops due
-two-due : (o c d : ℕ) (F f f′ : Bool) → c ≤ 9 → d ≤ 9 → (o ≡ c → F ≡ f) → (o ≡ d → F ≡ f′)
-    → cond (eqb (opCode (opCoded o)) c || (eqb (opCode (opCoded o)) d || false)) (cond F 0 6) 5 ≡ cond (eqb o c) (single true f) (single (eqb o d) f′)
-two-due o c d F f f′ h h′ same same′ =
-    ap (λ (b : Bool). cond (b || (eqb (opCode (opCoded o)) d || false)) (cond F 0 6) 5) (is-coded o c h) ∙ go (eqb o c) refl
-  where
-    go : (b : Bool) → eqb o c ≡ b → cond (b || (eqb (opCode (opCoded o)) d || false)) (cond F 0 6) 5 ≡ cond b (single true f) (single (eqb o d) f′)
-    go true e = ap (λ (b : Bool). cond b 0 6) (same (eqb-true o c e))
-    go false e = one-due o d F f′ h′ same′
+and-first : (a b : Bool) → (a && b) ≡ true → a ≡ true
+and-first true b e = refl
+and-first false b e = e
 
-pub init-form : (q o g a v : ℕ) → initFault q (input o g a v) ≡ cond (allBelow q (g ∷ a ∷ v ∷ [])) (initForm o g a v) 3
-unfolding initFault inputFault opIn isOp opCode initForm formedBy
-init-form q o g a v =
-    ap (λ (f : ℕ). cond (allBelow q (g ∷ a ∷ v ∷ [])) f 3)
-    (one-due o 0 (formedBy Ram o g a v) (eqb g 0 && eqb a 0) (omega arith) (λ e. ap (λ (x : ℕ). formedBy Ram x g a v) e ∙ formed-init Ram g a v))
+-- an operation without fault has an op that is due, and a guard of 0 or 1
+module _ (o g a v : ℕ) where
+  abbrev pub Formed : Memory → Type 0
+  Formed m = inputFault p m (opsDue m Operating) (input o g a v) ≡ 0
 
-pub operation-form : (q : ℕ) (m : Memory) (o g a v : ℕ) → inputFault q m (opsDue m Operating) (input o g a v) ≡ cond (allBelow q (g ∷ a ∷ v ∷ [])) (form m o g a v) 3
-unfolding inputFault opsDue opIn isOp opCode form formedBy
-operation-form q m o g a v = ap (λ (f : ℕ). cond (allBelow q (g ∷ a ∷ v ∷ [])) f 3) (go m)
-  where
-    by : (m : Memory) (c : ℕ) {f : Bool} → formedBy m c g a v ≡ f → o ≡ c → formedBy m o g a v ≡ f
-    by m c h e = ap (λ (x : ℕ). formedBy m x g a v) e ∙ h
+  due : (m : Memory) → Formed m → opIn (opCoded o) (opsDue m Operating) ≡ true
+  due m e = form-sound p m (opsDue m Operating) (input o g a v) e .0
 
-    go : (m : Memory) → cond (opIn (opCoded o) (opsDue m Operating)) (cond (formedBy m o g a v) 0 6) 5 ≡ form m o g a v
-    go Ram = one-due o 1 (formedBy Ram o g a v) (leb g 1) (omega arith) (by Ram 1 (formed-access Ram g a v))
-    go Rom = one-due o 2 (formedBy Rom o g a v) (eqb g 0 && eqb v 0) (omega arith) (by Rom 2 (formed-look Rom g a v))
-    go Set = one-due o 3 (formedBy Set o g a v) (eqb g 0 && eqb a 0) (omega arith) (by Set 3 (formed-member Set g a v))
-    go Stack = two-due o 4 5 (formedBy Stack o g a v) (leb g 1 && eqb a 0) ((leb g 1 && eqb a 0) && eqb v 0) (omega arith) (omega arith) (by Stack 4 (formed-push Stack g a v)) (by Stack 5 (formed-pop Stack g a v))
-    go Queue = two-due o 6 7 (formedBy Queue o g a v) (leb g 1 && eqb a 0) ((leb g 1 && eqb a 0) && eqb v 0) (omega arith) (omega arith) (by Queue 6 (formed-enqueue Queue g a v)) (by Queue 7 (formed-dequeue Queue g a v))
+  pub form-guard : (m : Memory) → Formed m → g ≤ 1
+  unfolding formed bare filledRow
+  form-guard m e = leb-true g 1 (and-first _ _ (and-first _ _ (form-sound p m (opsDue m Operating) (input o g a v) e .1)))
+
+  pub form-ram : Formed Ram → o ≡ 1
+  unfolding opsDue opIn isOp opCode
+  form-ram e = one-op o 1 (omega arith) (due Ram e)
+
+  pub form-rom : Formed Rom → o ≡ 2
+  unfolding opsDue opIn isOp opCode
+  form-rom e = one-op o 2 (omega arith) (due Rom e)
+
+  pub form-set : Formed Set → o ≡ 3
+  unfolding opsDue opIn isOp opCode
+  form-set e = one-op o 3 (omega arith) (due Set e)
+
+  pub form-stack : Formed Stack → (o ≡ 4) ⊎ (o ≡ 5)
+  unfolding opsDue opIn isOp opCode
+  form-stack e = two-ops o 4 5 (omega arith) (omega arith) (due Stack e)
+
+  pub form-queue : Formed Queue → (o ≡ 6) ⊎ (o ≡ 7)
+  unfolding opsDue opIn isOp opCode
+  form-queue e = two-ops o 6 7 (omega arith) (omega arith) (due Queue e)
+
+  pub form-init : initFault p (input o g a v) ≡ 0 → o ≡ 0
+  unfolding initFault opsDue opIn isOp opCode
+  form-init e = one-op o 0 (omega arith) (form-sound p Ram (opsDue Ram Starting) (input o g a v) e .0)
 
 -- an init row has the same fault in every memory: no other op is due
 pub init-any : (q : ℕ) (m : Memory) (i : Input) → inputFault q m (opsDue m Starting) i ≡ initFault q i

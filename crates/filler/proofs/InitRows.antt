@@ -5,38 +5,28 @@
 use Prim.Native.Nat.{ℕ, suc, _+_, _*_, _≤_}
 use native.Mathlib.Omega.{arith}
 use native.Mathlib.Numerals.{add-one}
-use mathlib.Core.Bool.{Bool, true, false, cond, _&&_}
+use mathlib.Core.Bool.{Bool, true, false, cond}
 use mathlib.Core.Path.{_≡_, refl, sym, ap, _∙_}
-use mathlib.Core.List.{List, [], _∷_, map}
+use mathlib.Core.List.{List, map}
 use lib.Dec.{eqb}
 use lib.ListN.{length, drop}
 use lib.Seq.{sets}
 use borrow.Author.Tests.{eqb-true, eqb-false}
 use Rattle.field.specs.Field.{p}
-use Rattle.memory.specs.Bytes.{allBelow}
 use Rattle.memory.specs.Honest.{Input, bare}
 use Rattle.memory.specs.Filler.{inputsIn, Placed, placed}
 use Rattle.index.specs.Values.{valueAt}
 use Rattle.filler.specs.Words.{opAt, guardAt, addrAt, inputAt, copied, laid}
-use Rattle.filler.specs.Scan.{single, initForm, initFault, initsScanned}
+use Rattle.filler.specs.Scan.{initFault, initsScanned}
 use Rattle.filler.proofs.Inputs.{inputs-cons}
 use Rattle.filler.proofs.Laid.{laid-put}
-use Rattle.filler.proofs.Forms.{input, init-form}
+use Rattle.filler.proofs.Forms.{form-init}
 use Rattle.filler.proofs.Scanned.{inits-turn}
-use Rattle.filler.proofs.Onward.{single-sound, copied-words}
+use Rattle.filler.proofs.Onward.{copied-words}
 
 pub record CleanInits (is : List Input) : Type 0 where
   pub place : ℕ
   pub none : initsScanned p place is .number ≡ 0
-
--- an init row without fault has the number of init
-init-op : (o g a v : ℕ) → initFault p (input o g a v) ≡ 0 → o ≡ 0
-unfolding initForm
-init-op o g a v e = go (allBelow p (g ∷ a ∷ v ∷ [])) (sym (init-form p o g a v) ∙ e)
-  where
-    go : (b : Bool) → cond b (single (eqb o 0) (eqb g 0 && eqb a 0)) 3 ≡ 0 → o ≡ 0
-    go true h = eqb-true o 0 (single-sound (eqb o 0) (eqb g 0 && eqb a 0) h .0)
-    go false h = absurd (omega (arith, h))
 
 pub record CleanInit (inits : List ℕ) (k : ℕ) : Type 0 where
   pub here : opAt inits k ≡ 0
@@ -50,7 +40,7 @@ clean-init inits k h c =
     go : (b : Bool) → eqb (initFault p (inputAt inits k)) 0 ≡ b
         → cond b (initsScanned p (suc (c .place)) (drop (suc k) (inputsIn inits))) (placed (initFault p (inputAt inits k)) (c .place)) .number ≡ 0 → CleanInit inits k
     go true e d = record {
-      here = init-op (opAt inits k) (guardAt inits k) (addrAt inits k) (valueAt inits k) (eqb-true _ 0 e);
+      here = form-init (opAt inits k) (guardAt inits k) (addrAt inits k) (valueAt inits k) (eqb-true _ 0 e);
       later = record { place = suc (c .place); none = ap (λ (j : ℕ). initsScanned p (suc (c .place)) (drop j (inputsIn inits)) .number) (add-one k) ∙ d };
     }
     go false e d = absurd (eqb-false _ 0 e d)

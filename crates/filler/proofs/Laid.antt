@@ -19,12 +19,12 @@ use Rattle.memory.specs.declared.Row.{Row}
 use Rattle.memory.specs.Filler.{rowNumbers}
 use Rattle.filler.specs.Words.{laid}
 
-pub rows-length : (rows : List Row) → length (rowNumbers rows) ≡ 7 * length rows
+rows-length : (rows : List Row) → length (rowNumbers rows) ≡ 7 * length rows
 unfolding rowNumbers
 rows-length [] = refl
 rows-length (row ∷ rows) = let ih = rows-length rows in omega arith
 
-pub rows-append : (xs ys : List Row) → rowNumbers (xs ++ ys) ≡ rowNumbers xs ++ rowNumbers ys
+rows-append : (xs ys : List Row) → rowNumbers (xs ++ ys) ≡ rowNumbers xs ++ rowNumbers ys
 unfolding rowNumbers
 rows-append [] ys = refl
 rows-append (x ∷ xs) ys = ap (λ (r : List ℕ). rowNumbers (x ∷ []) ++ r) (rows-append xs ys)
@@ -37,7 +37,7 @@ laid-none out a = ap (λ (k : ℕ). take a out ++ drop k out) (add-zero a) ∙ t
 drop-past : (front back : List ℕ) (n m : ℕ) → n ≡ length front + m → drop n (front ++ back) ≡ drop m back
 drop-past front back n m e = ap (λ (k : ℕ). drop k (front ++ back)) e ∙ drop-append-add front back m
 
-pub laid-append : (out : List ℕ) (a : ℕ) (xs ys : List Row) → a + 7 * length xs ≤ length out → laid out a (xs ++ ys) ≡ laid (laid out a xs) (a + 7 * length xs) ys
+laid-append : (out : List ℕ) (a : ℕ) (xs ys : List Row) → a + 7 * length xs ≤ length out → laid out a (xs ++ ys) ≡ laid (laid out a xs) (a + 7 * length xs) ys
 unfolding laid
 laid-append out a xs ys h =
     let X : List ℕ = rowNumbers xs in
@@ -62,7 +62,7 @@ laid-append out a xs ys h =
     ∙ ap (λ (l : List ℕ). l ++ (Y ++ drop (a + 7 * length xs + length Y) (front ++ tail))) kept
     ∙ ap (λ (l : List ℕ). front ++ (Y ++ l)) past)
 
-pub laid-length : (out : List ℕ) (a : ℕ) (rows : List Row) → a + 7 * length rows ≤ length out → length (laid out a rows) ≡ length out
+laid-length : (out : List ℕ) (a : ℕ) (rows : List Row) → a + 7 * length rows ≤ length out → length (laid out a rows) ≡ length out
 unfolding laid
 laid-length out a rows h =
     let R : List ℕ = rowNumbers rows in
@@ -86,7 +86,7 @@ laid-put out k row rest ws e h =
     ∙ ap (λ (l : List ℕ). laid l (7 * k + 7 * length (row ∷ [])) rest) (sym (laid-one out (7 * k) row h) ∙ ap (sets out (7 * k)) (sym e))
     ∙ ap (λ (a : ℕ). laid (sets out (7 * k) ws) a rest) next
 
-pub laid-part : (out : List ℕ) (a : ℕ) (rows : List Row) → laid out a rows ≡ take a out ++ laid (drop a out) 0 rows
+laid-part : (out : List ℕ) (a : ℕ) (rows : List Row) → laid out a rows ≡ take a out ++ laid (drop a out) 0 rows
 unfolding laid
 laid-part out a rows =
     let R : List ℕ = rowNumbers rows in
@@ -96,7 +96,7 @@ laid-part out a rows =
 pub part-lent : (out : List ℕ) (a : ℕ) → take (length out - a) (drop a out) ≡ drop a out
 part-lent out a = take-all (length out - a) (drop a out) (omega (arith, length-drop a out))
 
-pub part-back : (out part : List ℕ) (a : ℕ) → a ≤ length out → take a out ++ (part ++ drop (length out - a) (drop a out)) ≡ take a out ++ part
+part-back : (out part : List ℕ) (a : ℕ) → a ≤ length out → take a out ++ (part ++ drop (length out - a) (drop a out)) ≡ take a out ++ part
 part-back out part a h =
     ap (λ (l : List ℕ). take a out ++ (part ++ l)) (drop-of-length-le (drop a out) {i = length out - a} (omega (arith, length-drop a out)))
     ∙ ap (λ (l : List ℕ). take a out ++ l) (append-nil part)

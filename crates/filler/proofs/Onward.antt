@@ -1,41 +1,40 @@
 -- A run of operations part of the way: the rows written and those left make up all rows, and no operation left has a fault.
 --     onward-start, onward-turn    before the first operation, and after one more
 --     clean-turn      where no operation left has a fault, the one there has none, and neither have those after it
---     form-ram … form-queue       what a row without fault is
+--     inside-ram … held-queue     what a row that is possible is
 --     copied-words    the words of an operation's row
 -- Assumes nothing.
 use Prim.Native.Nat.{ℕ, suc, _+_, _*_, _≤_, _<_}
 use native.Mathlib.Omega.{arith}
 use native.Mathlib.Numerals.{add-one}
-use mathlib.Core.Bool.{Bool, true, false, cond, _&&_}
-use mathlib.Core.Logic.{_⊎_, inl, inr}
+use mathlib.Core.Bool.{Bool, true, false, cond}
 use mathlib.Core.Path.{_≡_, refl, sym, ap, _∙_}
 use mathlib.Core.List.{List, [], _∷_}
-use lib.Dec.{eqb, leb, ltb}
+use lib.Dec.{eqb, ltb}
 use lib.ListN.{length, drop}
 use lib.Seq.{sets, length-sets}
-use borrow.Author.Tests.{eqb-true, eqb-false, leb-true, ltb-true, eq-eqb, ne-eqb}
+use borrow.Author.Tests.{eqb-true, eqb-false, ltb-true, eq-eqb, ne-eqb}
 use Rattle.field.specs.Field.{p}
 use Rattle.memory.specs.declared.Memory.{Memory}
 use Rattle.memory.specs.declared.Memory.the-variants.{Ram, Rom, Set, Stack, Queue}
 use Rattle.memory.specs.declared.Row.{Row}
-use Rattle.memory.specs.Bytes.{allBelow}
+use Rattle.memory.specs.declared.Phase.the-variants.{Operating}
+use Rattle.memory.specs.Rows.{opsDue, limit}
 use Rattle.memory.specs.Plain.{among}
 use Rattle.memory.specs.Honest.{Input, filledRow}
-use Rattle.memory.specs.Filler.{inputsIn, rowNumbers, Placed, placed}
+use Rattle.memory.specs.Filler.{inputsIn, rowNumbers, inputFault, Placed, placed}
 use Rattle.index.specs.Values.{valueAt}
 use Rattle.filler.specs.Words.{opAt, guardAt, addrAt, inputAt, copied, laid}
-use Rattle.filler.specs.Steps.{few}
-use Rattle.filler.specs.Scan.{single, paired, emptied, form, refusal, leveled, faultAt, scanned}
+use Rattle.filler.specs.Scan.{emptied, refusal, leveled, faultAt, scanned}
 use Rattle.filler.proofs.Inputs.{inputs-cons}
 use Rattle.filler.proofs.Laid.{laid-put}
-use Rattle.filler.proofs.Forms.{coded, input}
+use Rattle.filler.proofs.Forms.{coded, input, Formed}
 use Rattle.filler.proofs.Scanned.{fault-by-words, scan-turn}
 
 -- t operations in 4 words each, and room for their rows, w end rows and t range rows
 pub record Given (w t : ℕ) (ops out₀ : List ℕ) : Type 0 where
   pub rows : 4 * t ≡ length ops
-  pub short : t ≤ few
+  pub short : t ≤ limit
   pub room : 7 * (t + w + t) ≤ length out₀
 
 pub record Onward (all rest : List Row) (k : ℕ) (out₀ out : List ℕ) : Type 0 where
@@ -46,7 +45,7 @@ pub record Onward (all rest : List Row) (k : ℕ) (out₀ out : List ℕ) : Type
 pub onward-start : (all : List Row) (out : List ℕ) → Onward all all 0 out out
 onward-start all out = record { whole = refl; counted = omega arith; long = refl }
 
-pub onward-turn : {all : List Row} {row : Row} {rest : List Row} {k : ℕ} {out₀ out : List ℕ} (ws : List ℕ) → Onward all (row ∷ rest) k out₀ out
+onward-turn : {all : List Row} {row : Row} {rest : List Row} {k : ℕ} {out₀ out : List ℕ} (ws : List ℕ) → Onward all (row ∷ rest) k out₀ out
     → ws ≡ rowNumbers (row ∷ []) → 7 * k + 7 ≤ length out → Onward all rest (k + 1) out₀ (sets out (7 * k) ws)
 onward-turn {all} {row} {rest} {k} {out₀} {out} ws o e room = record {
   whole = o .whole ∙ laid-put out k row rest ws e room;
@@ -79,19 +78,18 @@ pub record Clean (m : Memory) (values : List ℕ) (level : ℕ) (is : List Input
 
 -- a row without fault, by its words
 pub record Sound (m : Memory) (values : List ℕ) (level o g a v : ℕ) : Type 0 where
-  pub formed : form m o g a v ≡ 0
+  pub formed : Formed o g a v m
   pub possible : refusal m values level o g a v ≡ 0
 
 sound-of : (m : Memory) (values : List ℕ) (level o g a v : ℕ) → faultAt p m values level (input o g a v) ≡ 0 → Sound m values level o g a v
-sound-of m values level o g a v e = go (allBelow p (g ∷ a ∷ v ∷ [])) (form m o g a v) refl (sym (fault-by-words p m values level o g a v) ∙ e)
+sound-of m values level o g a v e = go (inputFault p m (opsDue m Operating) (input o g a v)) refl (sym (fault-by-words p m values level o g a v) ∙ e)
   where
-    at : (b : Bool) (f : ℕ) → form m o g a v ≡ f → eqb f 0 ≡ b → cond b (refusal m values level o g a v) f ≡ 0 → Sound m values level o g a v
+    at : (b : Bool) (f : ℕ) → inputFault p m (opsDue m Operating) (input o g a v) ≡ f → eqb f 0 ≡ b → cond b (refusal m values level o g a v) f ≡ 0 → Sound m values level o g a v
     at true f h t d = record { formed = h ∙ eqb-true f 0 t; possible = d }
     at false f h t d = absurd (eqb-false f 0 t d)
 
-    go : (b : Bool) (f : ℕ) → form m o g a v ≡ f → cond b (cond (eqb f 0) (refusal m values level o g a v) f) 3 ≡ 0 → Sound m values level o g a v
-    go true f h d = at (eqb f 0) f h refl d
-    go false f h d = absurd (omega (arith, d))
+    go : (f : ℕ) → inputFault p m (opsDue m Operating) (input o g a v) ≡ f → cond (eqb f 0) (refusal m values level o g a v) f ≡ 0 → Sound m values level o g a v
+    go f h d = at (eqb f 0) f h refl d
 
 pub record CleanTurn (m : Memory) (values : List ℕ) (level : ℕ) (ops : List ℕ) (k : ℕ) : Type 0 where
   pub here : Sound m values level (opAt ops k) (guardAt ops k) (addrAt ops k) (valueAt ops k)
@@ -117,49 +115,7 @@ clean-turn m values level ops k h c =
     }
     go false t d = absurd (eqb-false _ 0 t d)
 
--- ---- what a row without fault is
-
-pub single-sound : (d f : Bool) → single d f ≡ 0 → (d ≡ true) × (f ≡ true)
-single-sound true true e = (refl, refl)
-single-sound true false e = absurd (omega (arith, e))
-single-sound false f e = absurd (omega (arith, e))
-
-and-first : (a b : Bool) → (a && b) ≡ true → a ≡ true
-and-first true b e = refl
-and-first false b e = e
-
-pub record Paired (c d o g : ℕ) : Type 0 where
-  pub op : (o ≡ c) ⊎ (o ≡ d)
-  pub low : g ≤ 1
-
-paired-sound : (c d o g a v : ℕ) → paired (eqb o c) (eqb o d) g a v ≡ 0 → Paired c d o g
-paired-sound c d o g a v e = go (eqb o c) refl e
-  where
-    go : (b : Bool) → eqb o c ≡ b → cond b (single true (leb g 1 && eqb a 0)) (single (eqb o d) ((leb g 1 && eqb a 0) && eqb v 0)) ≡ 0 → Paired c d o g
-    go true t h = record { op = inl (eqb-true o c t); low = leb-true g 1 (and-first _ _ (single-sound true _ h .1)) }
-    go false t h =
-        let s = single-sound (eqb o d) _ h in
-        record { op = inr (eqb-true o d (s .0)); low = leb-true g 1 (and-first _ _ (and-first _ _ (s .1))) }
-
-pub form-ram : (o g a v : ℕ) → form Ram o g a v ≡ 0 → o ≡ 1
-unfolding form
-form-ram o g a v e = eqb-true o 1 (single-sound (eqb o 1) (leb g 1) e .0)
-
-pub form-rom : (o g a v : ℕ) → form Rom o g a v ≡ 0 → o ≡ 2
-unfolding form
-form-rom o g a v e = eqb-true o 2 (single-sound (eqb o 2) (eqb g 0 && eqb v 0) e .0)
-
-pub form-set : (o g a v : ℕ) → form Set o g a v ≡ 0 → o ≡ 3
-unfolding form
-form-set o g a v e = eqb-true o 3 (single-sound (eqb o 3) (eqb g 0 && eqb a 0) e .0)
-
-pub form-stack : (o g a v : ℕ) → form Stack o g a v ≡ 0 → Paired 4 5 o g
-unfolding form
-form-stack o g a v e = paired-sound 4 5 o g a v e
-
-pub form-queue : (o g a v : ℕ) → form Queue o g a v ≡ 0 → Paired 6 7 o g
-unfolding form
-form-queue o g a v e = paired-sound 6 7 o g a v e
+-- ---- what a row that is possible is
 
 -- a test that a refusal rests on
 passed : (b : Bool) (f : ℕ) → (f ≡ 0 → ⊥) → cond b 0 f ≡ 0 → b ≡ true

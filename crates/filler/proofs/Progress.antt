@@ -15,7 +15,7 @@ use Rattle.memory.specs.declared.Memory.{Memory}
 use Rattle.memory.specs.declared.Memory.the-variants.{Ram, Rom, Set, Stack, Queue}
 use Rattle.memory.specs.Rows.{sized}
 use Rattle.memory.specs.Honest.{operationsFilled}
-use Rattle.memory.specs.Filler.{inputsIn}
+use Rattle.memory.specs.Filler.{inputsIn, room}
 use Rattle.filler.specs.declared.steps.Cursor.{Cursor}
 use Rattle.index.specs.Values.{valuesIn}
 use Rattle.filler.specs.Steps.{Turned, turn, advanced, Ready}
@@ -68,19 +68,19 @@ empty n m values ops e c = subst (λ (l : ℕ). Clean m values l (inputsIn ops))
 
 pub progress-start : (m : Memory) (n t : ℕ) (inits ops out s : List ℕ) → Fillable m n t inits ops out s → Prepared m n inits s
     → Progress m (widthOf m n t) t inits ops out 0 (record { clock = 1; head = 0; tail = 0 }) out s
-unfolding widthOf sized
+unfolding widthOf sized room
 progress-start m n t inits ops out s f prepared = go m (record { place = n + 1; none = f .clean }) prepared (f .allowed)
   where
-    room : 2 * n + 3 * t ≤ length s
-    room = f .scratch-room
+    words : 2 * n + 3 * t ≤ length s
+    words = f .scratch-room
 
     go : (m : Memory) → Clean m (valuesIn inits) n (inputsIn ops) → Prepared m n inits s → sized m n ≡ true
         → Progress m (widthOf m n t) t inits ops out 0 (record { clock = 1; head = 0; tail = 0 }) out s
-    go Ram c h a = ram-start n t inits ops out s (f .starting) (h .first) (h .others) (let r = room in omega arith) c
-    go Rom c h a = rom-start n t inits ops out s h (let r = room in omega arith) c
-    go Set c h a = set-start n t inits ops out s h (let r = room in omega arith) c
-    go Stack c h a = stack-start t t inits ops out s h (let r = room in omega arith) (empty n Stack (valuesIn inits) ops (eqb-true n 0 a) c)
-    go Queue c h a = queue-start t t inits ops out s h (let r = room in omega arith) (empty n Queue (valuesIn inits) ops (eqb-true n 0 a) c)
+    go Ram c h a = ram-start n t inits ops out s (f .starting) (h .first) (h .others) (let r = words in omega arith) c
+    go Rom c h a = rom-start n t inits ops out s h (let r = words in omega arith) c
+    go Set c h a = set-start n t inits ops out s h (let r = words in omega arith) c
+    go Stack c h a = stack-start t t inits ops out s h (let r = words in omega arith) (empty n Stack (valuesIn inits) ops (eqb-true n 0 a) c)
+    go Queue c h a = queue-start t t inits ops out s h (let r = words in omega arith) (empty n Queue (valuesIn inits) ops (eqb-true n 0 a) c)
 
 module _ (m : Memory) (w t : ℕ) (inits ops out₀ : List ℕ) (given : Given w t ops out₀) (is : Wide m w t inits) (k : ℕ) (at : Cursor) (out s : List ℕ) (run : Progress m w t inits ops out₀ k at out s) where
   pub progress-ready : k < t → Ready m w k at inits ops s
@@ -125,7 +125,7 @@ module _ (m : Memory) (w t : ℕ) (inits ops out₀ : List ℕ) (given : Given w
 
 -- the rows that the scratch words give after all operations, and that they have room
 module _ (w t : ℕ) (inits ops out₀ : List ℕ) (given : Given w t ops out₀) (at : Cursor) (out s : List ℕ) where
-  pub progress-ends : (m : Memory) → Wide m w t inits → Progress m w t inits ops out₀ t at out s
+  progress-ends : (m : Memory) → Wide m w t inits → Progress m w t inits ops out₀ t at out s
       → Onward (operationsFilled m t (valuesIn inits) (inputsIn ops)) (ending m w t at inits s) t out₀ out
   unfolding ending
   progress-ends Ram h r = ram-ends w t inits ops out₀ (at .clock) out s given r
@@ -137,7 +137,7 @@ module _ (w t : ℕ) (inits ops out₀ : List ℕ) (given : Given w t ops out₀
   left : length out ≡ length out₀ → 7 * (w + t) ≤ length (drop (7 * t) out)
   left l = let r = given .room in omega (arith, length-drop (7 * t) out)
 
-  pub progress-fits : (m : Memory) → Wide m w t inits → Progress m w t inits ops out₀ t at out s → EndingFits m w t at inits s (drop (7 * t) out)
+  progress-fits : (m : Memory) → Wide m w t inits → Progress m w t inits ops out₀ t at out s → EndingFits m w t at inits s (drop (7 * t) out)
   progress-fits Ram h r = record { within = omega arith; held = r .roomy; room = left (r .onward .long) }
   progress-fits Rom h r = record { count = h; held = let q = r .roomy in omega arith; room = let q = left (r .onward .long) in omega arith }
   progress-fits Set h r = record { count = h; held = let q = r .roomy in omega arith; room = let q = left (r .onward .long) in omega arith }

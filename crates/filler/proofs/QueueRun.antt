@@ -25,8 +25,8 @@ use Rattle.filler.specs.Steps.{Turn, made, enqueueTurn, enqueued, dequeu
 use Rattle.filler.specs.Ends.{cellEnds}
 use Rattle.filler.specs.Scan.{leveled}
 use Rattle.filler.proofs.Inputs.{inputs-count}
-use Rattle.filler.proofs.Forms.{is-coded}
-use Rattle.filler.proofs.Onward.{Given, Onward, onward-start, onward-next, onward-as, Clean, CleanTurn, clean-turn, form-queue, held-queue, copied-words}
+use Rattle.filler.proofs.Forms.{is-coded, form-queue}
+use Rattle.filler.proofs.Onward.{Given, Onward, onward-start, onward-next, onward-as, Clean, CleanTurn, clean-turn, held-queue, copied-words}
 
 pub record QueueRun (w t : ℕ) (inits ops out₀ : List ℕ) (k : ℕ) (at : Cursor) (out s : List ℕ) : Type 0 where
   pub content : List ℕ
@@ -43,7 +43,7 @@ module _ (w t : ℕ) (inits ops out₀ : List ℕ) (given : Given w t ops out₀
   queue-clean = clean-turn Queue (valuesIn inits) (length (run .content)) ops k (let g = given .rows in omega arith) (run .clean)
 
   queue-op : opAt ops k ≤ 9
-  queue-op = go (form-queue (opAt ops k) (guardAt ops k) (addrAt ops k) (valueAt ops k) (queue-clean .here .formed) .op)
+  queue-op = go (form-queue (opAt ops k) (guardAt ops k) (addrAt ops k) (valueAt ops k) (queue-clean .here .formed))
     where
       go : (opAt ops k ≡ 6) ⊎ (opAt ops k ≡ 7) → opAt ops k ≤ 9
       go (inl e) = omega arith

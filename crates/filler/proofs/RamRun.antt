@@ -22,7 +22,8 @@ use Rattle.filler.specs.Steps.{counted, ramTurn, RamReady}
 use Rattle.filler.specs.Ends.{cellEnds, ranges}
 use Rattle.filler.specs.Scan.{leveled}
 use Rattle.filler.proofs.Inputs.{inputs-count, values-count}
-use Rattle.filler.proofs.Onward.{Given, Onward, onward-start, onward-next, onward-as, Clean, CleanTurn, clean-turn, form-ram, inside-ram, copied-words}
+use Rattle.filler.proofs.Forms.{form-ram}
+use Rattle.filler.proofs.Onward.{Given, Onward, onward-start, onward-next, onward-as, Clean, CleanTurn, clean-turn, inside-ram, copied-words}
 use Rattle.filler.proofs.Counts.{occurrences-few, counts-turn, ranges-are}
 
 pub record RamRun (w t : ℕ) (inits ops out₀ : List ℕ) (k clock : ℕ) (out s : List ℕ) : Type 0 where

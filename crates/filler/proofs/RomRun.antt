@@ -17,7 +17,8 @@ use Rattle.filler.specs.Steps.{romTurn, RomReady}
 use Rattle.filler.specs.Ends.{valueEnds}
 use Rattle.filler.specs.Scan.{leveled}
 use Rattle.filler.proofs.Inputs.{inputs-count, values-at, values-count}
-use Rattle.filler.proofs.Onward.{Given, Onward, onward-start, onward-next, onward-as, Clean, clean-turn, form-rom, inside-rom, copied-words}
+use Rattle.filler.proofs.Forms.{form-rom}
+use Rattle.filler.proofs.Onward.{Given, Onward, onward-start, onward-next, onward-as, Clean, clean-turn, inside-rom, copied-words}
 use Rattle.filler.proofs.Counts.{occurrences-few, counts-turn}
 
 pub record RomRun (w t : ℕ) (inits ops out₀ : List ℕ) (k : ℕ) (out s : List ℕ) : Type 0 where

@@ -1,26 +1,30 @@
 -- The scan by words, one row at a time.
 --     fault-by-words    the fault of an operation by its words
+--     fault-form, fault-possible    the fault of an operation by its form, and where it has none by that
 --     leveled-rise      a level rises by one at most
 --     inits-turn, scan-turn    the scan of what is left begins with the row there
 -- Assumes nothing.
 use Prim.Native.Nat.{ℕ, suc, _+_, _-_, _*_, _≤_}
 use native.Mathlib.Omega.{arith}
 use mathlib.Core.Bool.{Bool, true, false, cond}
-use mathlib.Core.Path.{_≡_, refl, ap, _∙_}
-use mathlib.Core.List.{List, [], _∷_}
+use mathlib.Core.Path.{_≡_, refl, sym, ap, _∙_}
+use mathlib.Core.List.{List}
 use lib.Dec.{eqb}
 use lib.ListN.{length, drop}
+use borrow.Author.Tests.{eq-eqb, ne-eqb}
+use Rattle.field.specs.Field.{p}
 use Rattle.memory.specs.declared.Memory.{Memory}
 use Rattle.memory.specs.declared.Memory.the-variants.{Ram, Rom, Set, Stack, Queue}
+use Rattle.memory.specs.declared.Op.{Op}
 use Rattle.memory.specs.declared.Phase.the-variants.{Operating}
 use Rattle.memory.specs.Names.{opCode}
-use Rattle.memory.specs.Bytes.{allBelow}
 use Rattle.memory.specs.Rows.{opsDue}
 use Rattle.memory.specs.Filler.{opCoded, inputsIn, inputFault, placed}
-use Rattle.filler.specs.Words.{opAt, guardAt, inputAt}
-use Rattle.filler.specs.Scan.{form, emptied, refusal, moved, leveled, faultAt, scanned, initFault, initsScanned}
+use Rattle.index.specs.Values.{valueAt}
+use Rattle.filler.specs.Words.{opAt, guardAt, addrAt, inputAt}
+use Rattle.filler.specs.Scan.{emptied, refusal, moved, leveled, faultAt, scanned, initFault, initsScanned}
 use Rattle.filler.proofs.Inputs.{inputs-cons}
-use Rattle.filler.proofs.Forms.{is-coded, input, operation-form}
+use Rattle.filler.proofs.Forms.{is-coded, input}
 
 -- neither depends on more of the op than whether it goes up
 refusal-coded : (m : Memory) (values : List ℕ) (level o g a v : ℕ) → refusal m values level (opCode (opCoded o)) g a v ≡ refusal m values level o g a v
@@ -31,7 +35,7 @@ refusal-coded Set values level o g a v = refl
 refusal-coded Stack values level o g a v = ap (λ (b : Bool). emptied b g level) (is-coded o 4 (omega arith))
 refusal-coded Queue values level o g a v = ap (λ (b : Bool). emptied b g level) (is-coded o 6 (omega arith))
 
-pub leveled-coded : (m : Memory) (level o g : ℕ) → leveled m level (opCode (opCoded o)) g ≡ leveled m level o g
+leveled-coded : (m : Memory) (level o g : ℕ) → leveled m level (opCode (opCoded o)) g ≡ leveled m level o g
 unfolding leveled
 leveled-coded Ram level o g = refl
 leveled-coded Rom level o g = refl
@@ -40,23 +44,30 @@ leveled-coded Stack level o g = ap (λ (b : Bool). moved b g level) (is-coded o 
 leveled-coded Queue level o g = ap (λ (b : Bool). moved b g level) (is-coded o 6 (omega arith))
 
 pub fault-by-words : (q : ℕ) (m : Memory) (values : List ℕ) (level o g a v : ℕ)
-    → faultAt q m values level (input o g a v)
-    ≡ cond (allBelow q (g ∷ a ∷ v ∷ [])) (cond (eqb (form m o g a v) 0) (refusal m values level o g a v) (form m o g a v)) 3
+    → let f = inputFault q m (opsDue m Operating) (input o g a v) in faultAt q m values level (input o g a v) ≡ cond (eqb f 0) (refusal m values level o g a v) f
 unfolding faultAt
 fault-by-words q m values level o g a v =
-    ap (λ (r : ℕ). cond (eqb X 0) r X) (refusal-coded m values level o g a v)
-    ∙ ap (λ (x : ℕ). cond (eqb x 0) R x) (operation-form q m o g a v)
-    ∙ go (allBelow q (g ∷ a ∷ v ∷ []))
-  where
-    X : ℕ
-    X = inputFault q m (opsDue m Operating) (input o g a v)
+    let f = inputFault q m (opsDue m Operating) (input o g a v) in
+    ap (λ (r : ℕ). cond (eqb f 0) r f) (refusal-coded m values level o g a v)
 
-    R : ℕ
-    R = refusal m values level o g a v
+-- the fault that the code finds of an operation by its form, or what is left to test
+module _ (m : Memory) (values : List ℕ) (level : ℕ) (ops : List ℕ) (k : ℕ) (op : Op) (f : ℕ) (is : op ≡ opCoded (opAt ops k)) (found : f ≡ inputFault p m (opsDue m Operating) (record { op = op; guard = guardAt ops k; addr = addrAt ops k; value = valueAt ops k })) where
+  possible : ℕ
+  possible = refusal m values level (opAt ops k) (guardAt ops k) (addrAt ops k) (valueAt ops k)
 
-    go : (b : Bool) → cond (eqb (cond b (form m o g a v) 3) 0) R (cond b (form m o g a v) 3) ≡ cond b (cond (eqb (form m o g a v) 0) R (form m o g a v)) 3
-    go true = refl
-    go false = refl
+  fault-either : faultAt p m values level (inputAt ops k) ≡ cond (eqb f 0) possible f
+  unfolding inputAt possible
+  fault-either =
+      let same = found ∙ ap (λ (x : Op). inputFault p m (opsDue m Operating) (record { op = x; guard = guardAt ops k; addr = addrAt ops k; value = valueAt ops k })) is in
+      fault-by-words p m values level (opAt ops k) (guardAt ops k) (addrAt ops k) (valueAt ops k)
+      ∙ ap (λ (x : ℕ). cond (eqb x 0) (refusal m values level (opAt ops k) (guardAt ops k) (addrAt ops k) (valueAt ops k)) x) (sym same)
+
+  pub fault-form : (f ≡ 0 → ⊥) → f ≡ faultAt p m values level (inputAt ops k)
+  fault-form n = sym (fault-either ∙ ap (λ (b : Bool). cond b possible f) (ne-eqb f 0 n))
+
+  pub fault-possible : f ≡ 0 → refusal m values level (opAt ops k) (guardAt ops k) (addrAt ops k) (valueAt ops k) ≡ faultAt p m values level (inputAt ops k)
+  unfolding possible
+  fault-possible e = sym (fault-either ∙ ap (λ (b : Bool). cond b possible f) (eq-eqb f 0 e))
 
 moved-rise : (up : Bool) (g level : ℕ) → moved up g level ≤ level + 1
 moved-rise up g level = go (eqb g 1) up

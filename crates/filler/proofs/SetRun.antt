@@ -25,7 +25,8 @@ use Rattle.filler.specs.Write.{Planted}
 use Rattle.filler.specs.Scan.{leveled}
 use Rattle.filler.proofs.Inputs.{inputs-count, values-count}
 use Rattle.filler.proofs.Members.{among-first, first-at, first-low}
-use Rattle.filler.proofs.Onward.{Given, Onward, onward-start, onward-next, onward-as, Clean, CleanTurn, clean-turn, form-set, inside-set, copied-words}
+use Rattle.filler.proofs.Forms.{form-set}
+use Rattle.filler.proofs.Onward.{Given, Onward, onward-start, onward-next, onward-as, Clean, CleanTurn, clean-turn, inside-set, copied-words}
 use Rattle.filler.proofs.Counts.{occurrences-few, occurrences-same, occurrences-other}
 
 -- the lookups that element j is given

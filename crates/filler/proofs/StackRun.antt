@@ -25,8 +25,8 @@ use Rattle.filler.specs.Steps.{Turn, made, counted, Countable, popTime, 
 use Rattle.filler.specs.Ends.{cellEnds, ranges}
 use Rattle.filler.specs.Scan.{leveled}
 use Rattle.filler.proofs.Inputs.{inputs-count}
-use Rattle.filler.proofs.Forms.{is-coded}
-use Rattle.filler.proofs.Onward.{Given, Onward, onward-start, onward-next, onward-as, Clean, CleanTurn, clean-turn, Paired, form-stack, held-stack, copied-words}
+use Rattle.filler.proofs.Forms.{is-coded, form-stack, form-guard}
+use Rattle.filler.proofs.Onward.{Given, Onward, onward-start, onward-next, onward-as, Clean, CleanTurn, clean-turn, held-stack, copied-words}
 use Rattle.filler.proofs.Counts.{occurrences-few, counts-turn, ranges-are}
 
 -- a cell lies at a word, and its time is past
@@ -73,11 +73,8 @@ module _ (w t : ℕ) (inits ops out₀ : List ℕ) (given : Given w t ops out₀
   stack-clean : CleanTurn Stack (valuesIn inits) (length (run .cells)) ops k
   stack-clean = clean-turn Stack (valuesIn inits) (length (run .cells)) ops k (let g = given .rows in omega arith) (run .clean)
 
-  form : Paired 4 5 (opAt ops k) (guardAt ops k)
-  form = form-stack (opAt ops k) (guardAt ops k) (addrAt ops k) (valueAt ops k) (stack-clean .here .formed)
-
   op-low : opAt ops k ≤ 9
-  op-low = go (form .op)
+  op-low = go (form-stack (opAt ops k) (guardAt ops k) (addrAt ops k) (valueAt ops k) (stack-clean .here .formed))
     where
       go : (opAt ops k ≡ 4) ⊎ (opAt ops k ≡ 5) → opAt ops k ≤ 9
       go (inl e) = omega arith
@@ -228,7 +225,7 @@ module _ (w t : ℕ) (inits ops out₀ : List ℕ) (given : Given w t ops out₀
   stack-push o false g =
       let i = run .within in
       let e = run .early in
-      let none : guardAt ops k ≡ 0 = let l = form .low in let n = eqb-false (guardAt ops k) 1 g in zero-of (guardAt ops k) l n in
+      let none : guardAt ops k ≡ 0 = let l = form-guard (opAt ops k) (guardAt ops k) (addrAt ops k) (valueAt ops k) Stack (stack-clean .here .formed) in let n = eqb-false (guardAt ops k) 1 g in zero-of (guardAt ops k) l n in
       let same : at .clock + guardAt ops k ≡ at .clock = omega arith in
       turned at (made (copied ops k 0 0 0) s) (simp (o, g)) (simp (o, g))
       (advance (run .cells) (run .ages) at (bare (inputAt ops k)) (copied ops k 0 0 0) s

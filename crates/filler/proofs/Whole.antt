@@ -1,6 +1,6 @@
 -- What a fill leaves, as the definition has it.
 --     blank-all       words that are all 0
---     sized-few, allowed-size, allowed-count    what an allowed size and count are
+--     sized-limit, allowed-size, allowed-count    what an allowed size and count are
 --     refused-is, filled-is    a refused row, and a fill
 --     away-unknown … away-scratch, not-away    what the library answers before it reads a row
 --     init-words-count, op-words-count, parts-filled    the rows in two parts, as they are lent
@@ -25,7 +25,6 @@ use Rattle.memory.specs.Filler.{inputsIn, rowNumbers, rowsFault, memoryCoded, r
 use Rattle.filler.specs.declared.Filled.the-variants.{Rows, Refused}
 use Rattle.filler.specs.Answer.{answerOf, placeOf, countOf, fillingOf}
 use Rattle.filler.specs.Words.{laid}
-use Rattle.filler.specs.Steps.{few}
 use Rattle.filler.proofs.Inputs.{inputs-take, inputs-drop}
 use Rattle.filler.proofs.Laid.{part-lent}
 
@@ -42,21 +41,21 @@ and-both false b e = (e, absurd (no e))
     no : false ≡ true → ⊥
     no e = omega (arith, ap {B = ℕ} (λ b. cond b 0 1) e)
 
-pub sized-few : (m : Memory) (n : ℕ) → sized m n ≡ true → n ≤ few
-unfolding sized limit
-sized-few Ram n e = leb-true n 65536 e
-sized-few Rom n e = leb-true n 65536 e
-sized-few Set n e = leb-true n 65536 e
-sized-few Stack n e = omega (arith, eqb-true n 0 e)
-sized-few Queue n e = omega (arith, eqb-true n 0 e)
+pub sized-limit : (m : Memory) (n : ℕ) → sized m n ≡ true → n ≤ limit
+unfolding sized
+sized-limit Ram n e = leb-true n limit e
+sized-limit Rom n e = leb-true n limit e
+sized-limit Set n e = leb-true n limit e
+sized-limit Stack n e = omega (arith, eqb-true n 0 e)
+sized-limit Queue n e = omega (arith, eqb-true n 0 e)
 
 pub allowed-size : (m : Memory) (n t : ℕ) → allowed m n t ≡ true → sized m n ≡ true
 unfolding allowed
 allowed-size m n t e = and-both (sized m n) (leb t limit) e .0
 
-pub allowed-count : (m : Memory) (n t : ℕ) → allowed m n t ≡ true → t ≤ few
-unfolding allowed limit
-allowed-count m n t e = leb-true t 65536 (and-both (sized m n) (leb t 65536) e .1)
+pub allowed-count : (m : Memory) (n t : ℕ) → allowed m n t ≡ true → t ≤ limit
+unfolding allowed
+allowed-count m n t e = leb-true t limit (and-both (sized m n) (leb t limit) e .1)
 
 pub refused-is : (m : Memory) (t : ℕ) (inits ops : List Input) (out s out′ s′ : List ℕ) (number place : ℕ)
     → number ≡ rowsFault p m (map (λ i. i .value) inits) 1 inits ops .number → place ≡ rowsFault p m (map (λ i. i .value) inits) 1 inits ops .place → (number ≡ 0 → ⊥)
@@ -111,14 +110,14 @@ module _ (k n t : ℕ) (rows out s : List ℕ) where
     away-size e = simp (known, e)
 
     module _ (size : sized m n ≡ true) where
-      pub away-count : few < t → fillingOf (Refused 4 0) out s ≡ fillOf p k n t rows out s
-      unfolding fillOf fillMemory turnedAway fillingOf answerOf placeOf countOf allowed limit
-      away-count h = simp (known, size, lt-leb t 65536 h)
+      pub away-count : limit < t → fillingOf (Refused 4 0) out s ≡ fillOf p k n t rows out s
+      unfolding fillOf fillMemory turnedAway fillingOf answerOf placeOf countOf allowed
+      away-count h = simp (known, size, lt-leb t limit h)
 
-      module _ (count : t ≤ few) where
+      module _ (count : t ≤ limit) where
         pub proper-is : allowed m n t ≡ true
-        unfolding allowed limit
-        proper-is = simp (size, le-leb t 65536 count)
+        unfolding allowed
+        proper-is = simp (size, le-leb t limit count)
 
         pub away-rows : (length rows ≡ 4 * (n + t) → ⊥) → fillingOf (Refused 7 0) out s ≡ fillOf p k n t rows out s
         unfolding fillOf fillMemory turnedAway fillingOf answerOf placeOf countOf

@@ -2,41 +2,19 @@
 -- depth, of a set the init values. The number of cells, or the depth, is the level.
 -- Assumes nothing.
 use Prim.Native.Nat.{ℕ, suc, _+_, _-_}
-use mathlib.Core.Bool.{Bool, true, _&&_, cond}
+use mathlib.Core.Bool.{Bool, cond}
 use mathlib.Core.Path.{_≡_}
 use mathlib.Core.List.{List, [], _∷_}
-use lib.Dec.{eqb, leb, ltb}
+use lib.Dec.{eqb, ltb}
 use Rattle.memory.specs.declared.Memory.{Memory}
 use Rattle.memory.specs.declared.Memory.the-variants.{Ram, Rom, Set, Stack, Queue}
-use Rattle.memory.specs.declared.Op.the-variants.{Init}
-use Rattle.memory.specs.declared.Phase.the-variants.{Operating}
+use Rattle.memory.specs.declared.Phase.the-variants.{Starting, Operating}
 use Rattle.memory.specs.Plain.{among}
 use Rattle.memory.specs.Rows.{opsDue}
 use Rattle.memory.specs.Names.{opCode}
 use Rattle.memory.specs.Honest.{Input}
 use Rattle.memory.specs.Filler.{inputFault, Placed, placed}
 use Rattle.filler.specs.Words.{Treed}
-
--- 5 and 6 of a row with one op due
-abbrev pub single : Bool → Bool → ℕ
-single due formed = cond due (cond formed 0 6) 5
-
--- of a row with two ops due, the second of which has no value
-abbrev pub paired : Bool → Bool → ℕ → ℕ → ℕ → ℕ
-paired first second g a v =
-    cond first (single true (leb g 1 && eqb a 0)) (single second ((leb g 1 && eqb a 0) && eqb v 0))
-
--- 5 and 6 of an init row, by its words
-unfoldable pub initForm : ℕ → ℕ → ℕ → ℕ → ℕ
-initForm o g a v = single (eqb o 0) (eqb g 0 && eqb a 0)
-
--- 5 and 6 of an operation, by its words
-unfoldable pub form : Memory → ℕ → ℕ → ℕ → ℕ → ℕ
-form Ram o g a v = single (eqb o 1) (leb g 1)
-form Rom o g a v = single (eqb o 2) (eqb g 0 && eqb v 0)
-form Set o g a v = single (eqb o 3) (eqb g 0 && eqb a 0)
-form Stack o g a v = paired (eqb o 4) (eqb o 5) g a v
-form Queue o g a v = paired (eqb o 6) (eqb o 7) g a v
 
 -- 12: an executed pop or dequeue at depth 0
 abbrev pub emptied : Bool → ℕ → ℕ → ℕ
@@ -82,7 +60,7 @@ scanned q m values level k (i ∷ is) =
 
 -- the fault of an init row, the same in every memory, and the first of them
 unfoldable pub initFault : ℕ → Input → ℕ
-initFault q i = inputFault q Ram (Init ∷ []) i
+initFault q i = inputFault q Ram (opsDue Ram Starting) i
 
 unfoldable pub initsScanned : ℕ → ℕ → List Input → Placed
 initsScanned q k [] = placed 0 0

@@ -12,12 +12,9 @@ use lib.Seq.{sets}
 use Rattle.memory.specs.declared.Memory.{Memory}
 use Rattle.memory.specs.declared.Memory.the-variants.{Ram, Rom, Set, Stack, Queue}
 use Rattle.filler.specs.declared.steps.Cursor.{Cursor}
+use Rattle.memory.specs.Rows.{limit}
 use Rattle.index.specs.Values.{valueAt, valuesIn, firstAt}
 use Rattle.filler.specs.Words.{opAt, guardAt, addrAt, copied, Treed}
-
--- a count of lookups is below this
-abbrev pub few : ℕ
-few = 65536
 
 -- The words of a row, and the scratch words after it
 pub record Turn : Type 0 where
@@ -39,7 +36,7 @@ counted s slot = set s slot (getD s slot 0 + 1)
 -- a slot is there, and its count may rise
 pub record Countable (s : List ℕ) (slot : ℕ) : Type 0 where
   pub inside : slot < length s
-  pub low : getD s slot 0 < few
+  pub low : getD s slot 0 < limit
 
 -- the slot of the age clock − time
 abbrev pub slotOf : ℕ → ℕ → ℕ → ℕ
@@ -98,7 +95,7 @@ pushed k at ops =
 pub record PushReady (w k : ℕ) (at : Cursor) (ops s : List ℕ) : Type 0 where
   pub free : guardAt ops k ≡ 1 → at .tail < w
   pub room : 2 * w ≤ length s
-  pub early : at .clock ≤ few
+  pub early : at .clock ≤ limit
 
 abbrev pub popTime : ℕ → Cursor → List ℕ → ℕ
 popTime w at s = getD s (w + (at .tail - 1)) 0
@@ -182,7 +179,7 @@ advanced Queue k at ops = queued k at ops
 
 -- an access has a clock that may rise
 pub record Timely (w k : ℕ) (at : Cursor) (ops s : List ℕ) : Type 0 where
-  pub early : at .clock ≤ few
+  pub early : at .clock ≤ limit
   pub ready : RamReady w k (at .clock) ops s
 
 abbrev pub Ready : Memory → ℕ → ℕ → Cursor → List ℕ → List ℕ → List ℕ → Type 0

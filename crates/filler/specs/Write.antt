@@ -8,13 +8,12 @@ use lib.ListN.{length, getD, take, drop}
 use Rattle.field.specs.Field.{p}
 use Rattle.memory.specs.declared.Memory.{Memory}
 use Rattle.memory.specs.declared.Memory.the-variants.{Ram, Rom, Set, Stack, Queue}
-use Rattle.memory.specs.Rows.{sized}
+use Rattle.memory.specs.Rows.{sized, limit}
 use Rattle.memory.specs.Honest.{operationsFilled}
-use Rattle.memory.specs.Filler.{inputsIn}
+use Rattle.memory.specs.Filler.{inputsIn, room}
 use Rattle.filler.specs.declared.steps.Cursor.{Cursor}
 use Rattle.index.specs.Values.{valuesIn}
 use Rattle.filler.specs.Words.{laid, Treed}
-use Rattle.filler.specs.Steps.{few}
 use Rattle.filler.specs.Ends.{ending, EndingFits}
 use Rattle.filler.specs.Scan.{scanned}
 
@@ -28,13 +27,13 @@ widthOf Queue n t = t
 
 -- init rows and operations without fault, room for the rows after the init rows, and scratch words
 pub record Fillable (m : Memory) (n t : ℕ) (inits ops out s : List ℕ) : Type 0 where
-  pub size : n ≤ few
-  pub count : t ≤ few
+  pub size : n ≤ limit
+  pub count : t ≤ limit
   pub allowed : sized m n ≡ true
   pub starting : 4 * n ≡ length inits
   pub operating : 4 * t ≡ length ops
   pub out-room : 7 * (n + 3 * t) ≤ length out
-  pub scratch-room : 2 * n + 3 * t ≤ length s
+  pub scratch-room : room n t ≤ length s
   pub clean : scanned p m (valuesIn inits) n (n + 1) (inputsIn ops) .number ≡ 0
 
 -- scratch words that are all 0

@@ -1,20 +1,20 @@
 // The first fault of the input rows. Nothing is written: of a ram and a rom the number of cells matters, of a stack and a queue the depth, of a set the
 // init values. The number of cells, or the depth, is the level.
-use field::Field;
 use memory::Memory;
-ghost use mathlib.Core.Bool.{true, false};
-ghost use mathlib.Core.List.{[], _∷_};
+use memory::Phase;
+use rules::inputs;
+use rules::ops;
+ghost use mathlib.Core.Bool.{true};
+ghost use mathlib.Core.List.{[]};
 ghost use mathlib.Core.Path.{_≡_};
 ghost use Prim.Native.Nat.{_+_, _*_, _≤_};
 ghost use lib.ListN.{length};
 ghost use Rattle.field.specs.Field.{p};
-ghost use Rattle.memory.specs.Bytes.{allBelow};
 ghost use Rattle.memory.specs.Filler.{inputsIn, rowsFault};
-ghost use Rattle.memory.specs.Rows.{sized};
+ghost use Rattle.memory.specs.Rows.{sized, limit};
 ghost use Rattle.index.specs.Values.{valuesIn};
 ghost use Rattle.filler.specs.Words.{inputAt, Treed};
-ghost use Rattle.filler.specs.Steps.{few};
-ghost use Rattle.filler.specs.Scan.{single, paired, form, emptied, Linked, refusal, moved, leveled, faultAt, scanned, initFault, initsScanned};
+ghost use Rattle.filler.specs.Scan.{emptied, Linked, refusal, moved, leveled, faultAt, scanned, initFault, initsScanned};
 
 // The number and the place of a fault; 0 and 0 where there is none.
 pub struct Fault {
@@ -22,63 +22,9 @@ pub struct Fault {
     pub place: usize,
 }
 
-const ACCESS: u32 = 1;
-
-const LOOK: u32 = 2;
-
-const MEMBER: u32 = 3;
-
 const PUSH: u32 = 4;
 
-const POP: u32 = 5;
-
 const ENQUEUE: u32 = 6;
-
-const DEQUEUE: u32 = 7;
-
-// 3: whether the numbers of a row are below p.
-pub fn below(guard: u32, addr: u32, value: u32) -> bool
-    ensures { λ r. ⌜ r ≡ allBelow p (guard ∷ addr ∷ value ∷ []) ⌝ }
-{
-    if guard >= Field::MODULUS {
-        return false;
-    }
-    if addr >= Field::MODULUS {
-        return false;
-    }
-    value < Field::MODULUS
-}
-
-// 5 and 6 of a row with one op due.
-pub fn single(due: bool, formed: bool) -> u32
-    ensures { λ r. ⌜ r ≡ single due formed ⌝ }
-{
-    if due { if formed { 0 } else { 6 } } else { 5 }
-}
-
-// 5 and 6 of a row with two ops due, the second of which has no value.
-fn paired(first: bool, second: bool, guard: u32, addr: u32, value: u32) -> u32
-    ensures { λ r. ⌜ r ≡ paired first second guard addr value ⌝ }
-{
-    let formed = (guard <= 1) & (addr == 0);
-    if first {
-        return single(true, formed);
-    }
-    single(second, formed & (value == 0))
-}
-
-// 5 and 6 of an operation.
-pub fn form(m: Memory, op: u32, guard: u32, addr: u32, value: u32) -> u32
-    ensures { λ r. ⌜ r ≡ form m op guard addr value ⌝ }
-{
-    match m {
-        Memory::Ram => single(op == ACCESS, guard <= 1),
-        Memory::Rom => single(op == LOOK, (guard == 0) & (value == 0)),
-        Memory::Set => single(op == MEMBER, (guard == 0) & (addr == 0)),
-        Memory::Stack => paired(op == PUSH, op == POP, guard, addr, value),
-        Memory::Queue => paired(op == ENQUEUE, op == DEQUEUE, guard, addr, value),
-    }
-}
 
 // 12: an executed pop or dequeue at depth 0.
 fn emptied(up: bool, guard: u32, level: usize) -> u32
@@ -138,7 +84,7 @@ fn refusal(
 
 // The depth after an operation that goes up or down.
 fn moved(up: bool, guard: u32, level: usize) -> usize
-    requires { ⌜ level ≤ 2 * few ⌝ }
+    requires { ⌜ level ≤ 2 * limit ⌝ }
     ensures { λ r. ⌜ r ≡ moved up guard level ⌝ }
 {
     if guard != 1 {
@@ -152,7 +98,7 @@ fn moved(up: bool, guard: u32, level: usize) -> usize
 
 // The level after an operation.
 fn leveled(m: Memory, level: usize, op: u32, guard: u32) -> usize
-    requires { ⌜ level ≤ 2 * few ⌝ }
+    requires { ⌜ level ≤ 2 * limit ⌝ }
     ensures { λ r. ⌜ r ≡ leveled m level op guard ⌝ }
 {
     match m {
@@ -170,13 +116,14 @@ fn init_fault(k: usize, inits: &[u32]) -> u32
     ensures { λ r. ⌜ r ≡ initFault p (inputAt (now (inits .entry)) k) ⌝ }
 {
     let from = 4 * k;
-    let guard = inits[from + 1];
-    let addr = inits[from + 2];
-    if below(guard, addr, inits[from + 3]) {
-        single(inits[from] == 0, (guard == 0) & (addr == 0))
-    } else {
-        3
-    }
+    inputs::fault(
+        Memory::Ram,
+        Phase::Starting,
+        ops::coded(inits[from]),
+        inits[from + 1],
+        inits[from + 2],
+        inits[from + 3],
+    )
 }
 
 // The fault of an operation at a level: 3, 5, 6, then 11, 12, 13.
@@ -198,20 +145,16 @@ fn operation_fault(
     let guard = ops[from + 1];
     let addr = ops[from + 2];
     let value = ops[from + 3];
-    if below(guard, addr, value) {
-        let fault = form(m, op, guard, addr, value);
-        if fault != 0 {
-            return fault;
-        }
-        refusal(m, n, level, inits, links, op, guard, addr, value)
-    } else {
-        3
+    let fault = inputs::fault(m, Phase::Operating, ops::coded(op), guard, addr, value);
+    if fault != 0 {
+        return fault;
     }
+    refusal(m, n, level, inits, links, op, guard, addr, value)
 }
 
 // The first fault of the init rows.
 pub(crate) fn scan_inits(n: usize, inits: &[u32]) -> Fault
-    requires { ⌜ (4 * n ≡ length (now inits)) × (n ≤ few) ⌝ }
+    requires { ⌜ (4 * n ≡ length (now inits)) × (n ≤ limit) ⌝ }
     ensures { λ r. ⌜ (r .number ≡ initsScanned p 1 (inputsIn (now (inits .entry))) .number) × (r .place ≡ initsScanned p 1 (inputsIn (now (inits .entry))) .place) ⌝ }
 {
     let mut k = 0;
@@ -240,7 +183,7 @@ pub(crate) fn scan_operations(
     links: &[u32],
     ops: &[u32],
 ) -> Fault
-    requires { ⌜ (4 * t ≡ length (now ops)) × (n ≤ few) × (t ≤ few) ⌝ }
+    requires { ⌜ (4 * t ≡ length (now ops)) × (n ≤ limit) × (t ≤ limit) ⌝ }
     requires { ⌜ Linked m n (now inits) (now links) ⌝ }
     ensures { λ r. ⌜ (r .number ≡ scanned p m (valuesIn (now (inits .entry))) n (n + 1) (inputsIn (now (ops .entry))) .number) × (r .place ≡ scanned p m (valuesIn (now (inits .entry))) n (n + 1) (inputsIn (now (ops .entry))) .place) ⌝ }
 {
@@ -272,7 +215,7 @@ pub(crate) fn scan(
     links: &[u32],
     ops: &[u32],
 ) -> Fault
-    requires { ⌜ (4 * n ≡ length (now inits)) × (4 * t ≡ length (now ops)) × (n ≤ few) × (t ≤ few) ⌝ }
+    requires { ⌜ (4 * n ≡ length (now inits)) × (4 * t ≡ length (now ops)) × (n ≤ limit) × (t ≤ limit) ⌝ }
     requires { ⌜ sized m n ≡ true ⌝ }
     requires { ⌜ Linked m n (now inits) (now links) ⌝ }
     ensures number { λ r. ⌜ r .number ≡ rowsFault p m (valuesIn (now (inits .entry))) 1 (inputsIn (now (inits .entry))) (inputsIn (now (ops .entry))) .number ⌝ }

@@ -10,7 +10,8 @@ ghost use Prim.Native.Nat.{_+_, _*_, _<_};
 ghost use lib.Dec.{eqb};
 ghost use lib.ListN.{length, getD, set};
 ghost use Rattle.filler.specs.Words.{RowFits};
-ghost use Rattle.filler.specs.Steps.{Turned, few, ramTurn, RamReady, romTurn, RomReady, setTurn, SetReady, pushTurn, pushed, PushReady, popTurn, popped, PopReady, stackTurn, stacked, StackReady, enqueueTurn, enqueued, EnqueueReady, dequeueTurn, dequeued, DequeueReady, queueTurn, queued, QueueReady, turn, advanced, Ready};
+ghost use Rattle.memory.specs.Rows.{limit};
+ghost use Rattle.filler.specs.Steps.{Turned, ramTurn, RamReady, romTurn, RomReady, setTurn, SetReady, pushTurn, pushed, PushReady, popTurn, popped, PopReady, stackTurn, stacked, StackReady, enqueueTurn, enqueued, EnqueueReady, dequeueTurn, dequeued, DequeueReady, queueTurn, queued, QueueReady, turn, advanced, Ready};
 
 // The clock, and where the cells begin and end that a stack or a queue holds.
 pub struct Cursor {
@@ -25,7 +26,7 @@ const ENQUEUE: u32 = 6;
 
 // "version is the number of earlier lookups of the same key": the count in a slot, which rises by one.
 fn looked(slot: usize, scratch: &mut [u32]) -> u32
-    requires { ⌜ (slot < length (now scratch)) × (getD (now scratch) slot 0 < few) ⌝ }
+    requires { ⌜ (slot < length (now scratch)) × (getD (now scratch) slot 0 < limit) ⌝ }
     ensures version { λ r. ⌜ r ≡ getD (now (scratch .entry)) slot 0 ⌝ }
     ensures counted { λ r. ⌜ now (scratch .exit) ≡ set (now (scratch .entry)) slot (getD (now (scratch .entry)) slot 0 + 1) ⌝ }
 {

@@ -10,7 +10,7 @@ ghost use Rattle.memory.specs.Filler.{inputsIn};
 ghost use Rattle.memory.specs.Honest.{operationsFilled};
 ghost use Rattle.index.specs.Values.{valuesIn};
 ghost use Rattle.filler.specs.Words.{laid};
-ghost use Rattle.filler.specs.Steps.{few};
+ghost use Rattle.memory.specs.Rows.{limit};
 ghost use Rattle.filler.specs.Write.{widthOf, Fillable, Blank, Filled-in, Planted, Prepared, Ended};
 
 // How many cells the scratch words hold.
@@ -41,7 +41,7 @@ fn load(n: usize, inits: &[u32], scratch: &mut [u32])
 
 // The search tree over the elements of a set, in the first n words.
 fn plant(n: usize, inits: &[u32], scratch: &mut [u32])
-    requires { ⌜ (4 * n ≡ length (now inits)) × (n ≤ length (now scratch)) × (n ≤ few) ⌝ }
+    requires { ⌜ (4 * n ≡ length (now inits)) × (n ≤ length (now scratch)) × (n ≤ limit) ⌝ }
     requires { ⌜ Blank (now scratch) ⌝ }
     ensures { λ _. ⌜ Planted n (now (inits .entry)) (now (scratch .exit)) ⌝ }
 {
@@ -50,7 +50,7 @@ fn plant(n: usize, inits: &[u32], scratch: &mut [u32])
 
 // The scratch words before the first operation.
 pub fn prepare(m: Memory, n: usize, inits: &[u32], scratch: &mut [u32])
-    requires { ⌜ (4 * n ≡ length (now inits)) × (n ≤ length (now scratch)) × (n ≤ few) ⌝ }
+    requires { ⌜ (4 * n ≡ length (now inits)) × (n ≤ length (now scratch)) × (n ≤ limit) ⌝ }
     requires { ⌜ Blank (now scratch) ⌝ }
     ensures { λ _. ⌜ Prepared m n (now (inits .entry)) (now (scratch .exit)) ⌝ }
 {

@@ -3,26 +3,18 @@
 use Prim.Native.Nat.{ℕ, _*_}
 use mathlib.Core.Bool.{cond}
 use mathlib.Core.List.{List, [], _∷_}
-use lib.Dec.{ltb}
 use lib.Seq.{sets}
 use Rattle.field.specs.Field.{p}
 use Rattle.memory.specs.declared.Op.{Op}
 use Rattle.memory.specs.declared.Intake.{Intake}
-use Rattle.memory.specs.Bytes.{allBelow}
 use Rattle.memory.specs.FillFile.{InputLine, sound}
 use Rattle.memory.specs.FillStream.{Gathered, gathered, untaken}
-use Rattle.filler.specs.Scan.{initForm, form}
 use Rattle.pieces.specs.Calls.{Left}
 use Rattle.fillfile.specs.declared.Progress.{Progress}
 
 -- a row line that reads as a row
 unfoldable pub givenRow : Op → ℕ → ℕ → ℕ → InputLine
 givenRow o g a v = sound (record { op = o; guard = g; addr = a; value = v })
-
--- 3, 5 and 6 of the row after those that have passed, by its words
-unfoldable pub inputFaultAt : Intake → ℕ → ℕ → ℕ → ℕ → ℕ
-inputFaultAt i o g a v =
-    cond (allBelow p (g ∷ a ∷ v ∷ [])) (cond (ltb (i .passed) (i .size)) (initForm o g a v) (form (i .memory) o g a v)) 3
 
 -- row k in the slice of words, by its words
 unfoldable pub storedWords : List ℕ → ℕ → ℕ → ℕ → ℕ → ℕ → List ℕ

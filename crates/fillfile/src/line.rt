@@ -1,22 +1,20 @@
 // One whole line of the filling program's input: line 1, the value line, line 3, and the rows.
-use filler::faults;
 use lines::filling;
 use lines::filling::Given;
 use lines::filling::Task;
 use memory::Intake;
 use memory::Op;
+use memory::Phase;
 use rules::counters;
+use rules::inputs;
 use rules::ops;
 ghost use mathlib.Core.Path.{_≡_};
 ghost use Prim.Native.Nat.{_<_};
 ghost use lib.ListN.{set};
 ghost use Rattle.field.specs.Field.{p};
-ghost use Rattle.memory.specs.FillFile.{parseJob};
+ghost use Rattle.memory.specs.FillFile.{parseJob, inputLineFault};
 ghost use Rattle.memory.specs.FillStream.{gathered, refuseOn, namesTaken, jobTaken, rowsDue, refuseRow, inputTaken, rowTaken, lineTaken};
-ghost use Rattle.fillfile.specs.Progress.{inputFaultAt, storedWords, givenRow};
-
-// The op of an init row.
-const INIT: u32 = 0;
+ghost use Rattle.fillfile.specs.Progress.{storedWords, givenRow};
 
 // A fault on a line.
 pub fn refuse(mut intake: Intake, answer: u32, line: u32) -> Intake
@@ -77,17 +75,14 @@ fn opened(intake: Intake, text: &[u8], ended: bool) -> Intake
 }
 
 // 3, 5 and 6 of the next row.
-fn fault(intake: Intake, op: u32, guard: u32, addr: u32, value: u32) -> u32
-    ensures { λ r. ⌜ r ≡ inputFaultAt intake op guard addr value ⌝ }
+fn fault(intake: Intake, op: Op, guard: u32, addr: u32, value: u32) -> u32
+    ensures { λ r. ⌜ r ≡ inputLineFault p (intake .memory) (intake .size) (intake .passed) (givenRow op guard addr value) ⌝ }
 {
-    if !faults::below(guard, addr, value) {
-        return 3;
-    }
-    if intake.passed < intake.size {
-        return faults::single(op == INIT, (guard == 0) & (addr == 0));
-    }
     let memory = intake.memory;
-    faults::form(memory, op, guard, addr, value)
+    if intake.passed < intake.size {
+        return inputs::fault(memory, Phase::Starting, op, guard, addr, value);
+    }
+    inputs::fault(memory, Phase::Operating, op, guard, addr, value)
 }
 
 // Writes a word where there is one.
@@ -115,7 +110,7 @@ fn take(mut intake: Intake, op: Op, guard: u32, addr: u32, value: u32, words: &m
     ensures { λ r. ⌜ gathered r (now (words .exit)) ≡ inputTaken p (gathered intake (now (words .entry))) (givenRow op guard addr value) ⌝ }
 {
     let number = ops::code(op);
-    let fault = fault(intake, number, guard, addr, value);
+    let fault = fault(intake, op, guard, addr, value);
     if fault != 0 {
         return refuse_row(intake, fault);
     }

@@ -113,11 +113,18 @@ fn allows(due: Allowed, op: Op) -> bool
     }
 }
 
+// Whether an op is due in a phase of a memory.
+pub fn takes(memory: Memory, phase: Phase, op: Op) -> bool
+    ensures { λ r. ⌜ r ≡ opIn op (opsDue memory phase) ⌝ }
+{
+    let due = ops(memory, phase);
+    allows(due, op)
+}
+
 // Whether an op is due next.
 pub fn admits(c: Context, op: Op) -> bool
     ensures { λ r. ⌜ r ≡ opIn op (opsDue (c .memory) (phase c)) ⌝ }
 {
     let memory = c.memory;
-    let due = ops(memory, phase(c));
-    allows(due, op)
+    takes(memory, phase(c), op)
 }

@@ -3,5 +3,6 @@ pub mod ages;
 pub mod columns;
 pub mod counters;
 pub mod due;
+pub mod inputs;
 pub mod ops;
 pub mod sizes;

@@ -2,7 +2,7 @@
 -- Assumes nothing.
 use mathlib.Core.Path.{sym, ap, _∙_}
 use borrow.Author.Tests.{not-true, not-false}
-use Rattle.memory.specs.Rows.{sized}
+use Rattle.memory.specs.Rows.{sized, limit}
 use Rattle.memory.specs.Filler.{room}
 use Rattle.filler.specs.Answer.{knownOf}
 use Rattle.filler.proofs.Whole.{away-unknown, away-size, away-count, proper-is, away-rows, away-out, away-scratch, not-away}
@@ -34,7 +34,7 @@ returns-2 c = let at = c .before .before .before .before .before .before .before
     away-size (at .memory) (at .size) (at .count) (at .rows .now) (at .out .now) (at .scratch .now) (c .before .before .before .m .given .0 .0) known (sym (c .before .sized .ensures) ∙ not-true _ (c .if1 .taken))
 
 returns-3 : tie.Need-returns-3
-unfolding knownOf
+unfolding knownOf limit
 returns-3 c = let at = c .before .before .before .before .before .before .before .before .before .before .args in
     let known = sym (c .before .before .before .before .before .before .memory-of .ensures) ∙ ap knownOf (c .before .before .before .before .m .given .1) in
     let size = sym (c .before .before .sized .ensures) ∙ not-false _ (c .before .if1 .left) in
@@ -47,7 +47,7 @@ mul-if3 : tie.Need-mul-if3
 mul-if3 c = search needs
 
 returns-4 : tie.Need-returns-4
-unfolding knownOf
+unfolding knownOf limit
 returns-4 c = let at = c .before .before .before .before .before .before .before .before .before .before .before .args in
     let known = sym (c .before .before .before .before .before .before .before .memory-of .ensures) ∙ ap knownOf (c .before .before .before .before .before .m .given .1) in
     let size = sym (c .before .before .before .sized .ensures) ∙ not-false _ (c .before .before .if1 .left) in
@@ -66,21 +66,21 @@ mul-if4 : tie.Need-mul-if4
 mul-if4 c = search needs
 
 returns-5 : tie.Need-returns-5
-unfolding knownOf room
+unfolding knownOf room limit
 returns-5 c = let at = c .before .before .before .before .before .before .before .before .before .before .before .before .args in
     let known = sym (c .before .before .before .before .before .before .before .before .memory-of .ensures) ∙ ap knownOf (c .before .before .before .before .before .before .m .given .1) in
     let size = sym (c .before .before .before .before .sized .ensures) ∙ not-false _ (c .before .before .before .if1 .left) in
     away-out (at .memory) (at .size) (at .count) (at .rows .now) (at .out .now) (at .scratch .now) (c .before .before .before .before .before .before .m .given .0 .0) known size (c .before .before .if2 .left) (c .before .if3 .left) (c .if4 .taken)
 
 returns-6 : tie.Need-returns-6
-unfolding knownOf room
+unfolding knownOf room limit
 returns-6 c = let at = c .before .before .before .before .before .before .before .before .before .before .before .before .before .args in
     let known = sym (c .before .before .before .before .before .before .before .before .before .memory-of .ensures) ∙ ap knownOf (c .before .before .before .before .before .before .before .m .given .1) in
     let size = sym (c .before .before .before .before .before .sized .ensures) ∙ not-false _ (c .before .before .before .before .if1 .left) in
     away-scratch (at .memory) (at .size) (at .count) (at .rows .now) (at .out .now) (at .scratch .now) (c .before .before .before .before .before .before .before .m .given .0 .0) known size (c .before .before .before .if2 .left) (c .before .before .if3 .left) (c .before .if4 .left) (c .if5 .taken)
 
 fill-rows-requires : tie.Need-fill-rows-requires
-unfolding knownOf room
+unfolding knownOf room limit
 fill-rows-requires c κs = let at = c .before .before .before .before .before .before .before .before .before .before .before .before .before .before .before .args in
     let known = sym (c .before .before .before .before .before .before .before .before .before .before .before .memory-of .ensures) ∙ ap knownOf (c .before .before .before .before .before .before .before .before .before .m .given .1) in
     let size = sym (c .before .before .before .before .before .before .before .sized .ensures) ∙ not-false _ (c .before .before .before .before .before .before .if1 .left) in
@@ -98,7 +98,7 @@ same-length-2 : tie.Need-same-length-2
 same-length-2 c = search needs
 
 returns-7 : tie.Need-returns-7
-unfolding knownOf room
+unfolding knownOf room limit
 returns-7 c = let at = c .before .before .before .before .before .before .before .before .before .before .before .before .before .before .before .before .before .before .before .before .args in
     let known = sym (c .before .before .before .before .before .before .before .before .before .before .before .before .before .before .before .before .memory-of .ensures) ∙ ap knownOf (c .before .before .before .before .before .before .before .before .before .before .before .before .before .before .m .given .1) in
     let size = sym (c .before .before .before .before .before .before .before .before .before .before .before .before .sized .ensures) ∙ not-false _ (c .before .before .before .before .before .before .before .before .before .before .before .if1 .left) in

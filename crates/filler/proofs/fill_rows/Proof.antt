@@ -12,7 +12,7 @@ use Rattle.index.specs.Values.{valuesIn}
 use Rattle.filler.proofs.Inputs.{inputs-count, values-count}
 use Rattle.filler.proofs.FirstFault.{clean-inits, clean-operations}
 use Rattle.filler.proofs.Planted.{prepared-treed}
-use Rattle.filler.proofs.Whole.{blank-all, sized-few, allowed-size, allowed-count, refused-is, filled-is, initWords, opWords, init-words-count, op-words-count, parts-filled}
+use Rattle.filler.proofs.Whole.{blank-all, sized-limit, allowed-size, allowed-count, refused-is, filled-is, initWords, opWords, init-words-count, op-words-count, parts-filled}
 use borrow.Author.Needs.{needs}
 use Rattle.filler.proofs.fill_rows.Statement.{statement}
 use Rattle.filler.proofs.fill_rows.Tie as tie
@@ -44,7 +44,7 @@ prepare-requires c κs = let at = c .before .before .before .before .before .bef
   (
     init-words-count (at .rows .now) (at .n) (at .t) (c .before .before .before .before .before .before .before .before .before .before .pre .all),
     omega (arith, c .before .before .before .clear .kept, c .before .before .before .before .before .before .before .before .before .before .pre .scratch-room),
-    sized-few (at .m) (at .n) (allowed-size (at .m) (at .n) (at .t) (c .before .before .before .before .before .before .before .before .before .before .pre .proper)),
+    sized-limit (at .m) (at .n) (allowed-size (at .m) (at .n) (at .t) (c .before .before .before .before .before .before .before .before .before .before .pre .proper)),
   ),
   (λ j. ap (λ (s : List ℕ). getD s j 0) (c .before .before .before .clear .ensures) ∙ blank-all (length (at .scratch .now)) j),
 )
@@ -68,7 +68,7 @@ scan-requires c κs = let at = c .before .before .before .before .before .before
       (
         init-words-count rows (at .n) (at .t) all,
         op-words-count rows (at .n) (at .t) all,
-        sized-few (at .m) (at .n) size,
+        sized-limit (at .m) (at .n) size,
         allowed-count (at .m) (at .n) (at .t) proper,
       ),
       (size, prepared-treed (at .m) (at .n) inits _ (c .before .before .before .prepare .ensures)),
@@ -118,7 +118,7 @@ write-rows-requires c κs = let at = c .before .before .before .before .before .
         omega (arith, c .before .before .before .before .before .before .before .before .before .before .before .before .before .before .before .before .before .before .before .pre .out-room),
         (
           record {
-            size = sized-few (at .m) (at .n) size;
+            size = sized-limit (at .m) (at .n) size;
             count = allowed-count (at .m) (at .n) (at .t) proper;
             allowed = size;
             starting = starting;

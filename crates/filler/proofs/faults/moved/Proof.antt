@@ -5,6 +5,7 @@ use mathlib.Core.Path.{_≡_}
 use native.Mathlib.Omega.{arith}
 use borrow.Author.Tests.{eq-eqb, ne-eqb}
 use borrow.Author.Needs.{needs}
+use Rattle.memory.specs.Rows.{limit}
 use Rattle.filler.proofs.faults.moved.Statement.{statement}
 use Rattle.filler.proofs.faults.moved.Tie as tie
 
@@ -12,6 +13,7 @@ returns : tie.Need-returns
 returns c = simp (ne-eqb _ _ (c .if1 .taken))
 
 add-result : tie.Need-add-result
+unfolding limit
 add-result c = search needs
 
 returns-2 : tie.Need-returns-2

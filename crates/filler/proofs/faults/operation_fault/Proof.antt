@@ -1,11 +1,8 @@
 -- `filler::faults::operation_fault` meets its contract.
 -- Assumes nothing.
-use mathlib.Core.Path.{sym, _∙_}
-use borrow.Author.Tests.{eq-eqb, ne-eqb}
-use Rattle.field.specs.Field.{p}
-use Rattle.index.specs.Values.{valueAt, valuesIn}
-use Rattle.filler.specs.Words.{opAt, guardAt, addrAt, inputAt}
-use Rattle.filler.proofs.Scanned.{fault-by-words}
+use mathlib.Core.Path.{_∙_}
+use Rattle.index.specs.Values.{valuesIn}
+use Rattle.filler.proofs.Scanned.{fault-form, fault-possible}
 use borrow.Author.Needs.{needs}
 use Rattle.filler.proofs.faults.operation_fault.Statement.{statement}
 use Rattle.filler.proofs.faults.operation_fault.Tie as tie
@@ -46,39 +43,20 @@ mul-value c = search needs
 shared-slice-read-value : tie.Need-shared-slice-read-value
 shared-slice-read-value c = search needs
 
-below-requires : tie.Need-below-requires
-below-requires c κs = search needs
+coded-requires : tie.Need-coded-requires
+coded-requires c κs = search needs
 
-form-requires : tie.Need-form-requires
-form-requires c κs = search needs
+fault-requires : tie.Need-fault-requires
+fault-requires c κs = search needs
 
 returns : tie.Need-returns
-unfolding inputAt
-returns c = let at = c .before .before .before .before .before .before .before .before .before .before .before .args in
-    let ops = at .ops .now in
-    sym
-    (fault-by-words p (at .m) (valuesIn (at .inits .now)) (at .level) (opAt ops (at .k)) (guardAt ops (at .k)) (addrAt ops (at .k)) (valueAt ops (at .k))
-    ∙ simp (sym (c .before .before .before .below .ensures) ∙ c .before .before .if1 .taken, sym (c .before .form .ensures), ne-eqb _ _ (c .if2 .taken)))
+returns c = fault-form (c .before .before .before .before .before .before .before .before .before .before .args .m) (valuesIn (c .before .before .before .before .before .before .before .before .before .before .args .inits .now)) (c .before .before .before .before .before .before .before .before .before .before .args .level) (c .before .before .before .before .before .before .before .before .before .before .args .ops .now) (c .before .before .before .before .before .before .before .before .before .before .args .k) (c .before .before .coded .result) (c .before .fault .result) (c .before .before .coded .ensures) (c .before .fault .ensures) (c .if1 .taken)
 
 refusal-requires : tie.Need-refusal-requires
-refusal-requires c κs = c .before .before .before .before .before .before .before .before .before .before .before .pre .1
+refusal-requires c κs = search needs
 
 returns-2 : tie.Need-returns-2
-unfolding inputAt
-returns-2 c = let at = c .before .before .before .before .before .before .before .before .before .before .before .before .args in
-    let ops = at .ops .now in
-    c .refusal .ensures
-    ∙ sym
-    (fault-by-words p (at .m) (valuesIn (at .inits .now)) (at .level) (opAt ops (at .k)) (guardAt ops (at .k)) (addrAt ops (at .k)) (valueAt ops (at .k))
-    ∙ simp (sym (c .before .before .before .before .below .ensures) ∙ c .before .before .before .if1 .taken, sym (c .before .before .form .ensures), eq-eqb _ _ (c .before .if2 .left)))
-
-returns-3 : tie.Need-returns-3
-unfolding inputAt
-returns-3 c = let at = c .before .before .before .before .before .before .before .before .before .args in
-    let ops = at .ops .now in
-    sym
-    (fault-by-words p (at .m) (valuesIn (at .inits .now)) (at .level) (opAt ops (at .k)) (guardAt ops (at .k)) (addrAt ops (at .k)) (valueAt ops (at .k))
-    ∙ simp (sym (c .before .below .ensures) ∙ c .if1 .left))
+returns-2 c = c .refusal .ensures ∙ fault-possible (c .before .before .before .before .before .before .before .before .before .before .before .args .m) (valuesIn (c .before .before .before .before .before .before .before .before .before .before .before .args .inits .now)) (c .before .before .before .before .before .before .before .before .before .before .before .args .level) (c .before .before .before .before .before .before .before .before .before .before .before .args .ops .now) (c .before .before .before .before .before .before .before .before .before .before .before .args .k) (c .before .before .before .coded .result) (c .before .before .fault .result) (c .before .before .before .coded .ensures) (c .before .before .fault .ensures) (c .before .if1 .left)
 
 pub operation-fault-spec : {M : Type 1} → statement M
 operation-fault-spec =
@@ -96,9 +74,8 @@ operation-fault-spec =
     add-value
     mul-value
     shared-slice-read-value
-    below-requires
-    form-requires
+    coded-requires
+    fault-requires
     returns
     refusal-requires
-    returns-2
-    returns-3)
+    returns-2)

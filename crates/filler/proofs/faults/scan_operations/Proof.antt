@@ -13,6 +13,7 @@ use borrow.Author.Tests.{eq-eqb, ne-eqb}
 use Rattle.field.specs.Field.{p}
 use Rattle.memory.specs.Filler.{inputsIn, Placed, placed}
 use Rattle.index.specs.Values.{valuesIn}
+use Rattle.memory.specs.Rows.{limit}
 use Rattle.filler.specs.Words.{opAt, guardAt, inputAt}
 use Rattle.filler.specs.Scan.{leveled, faultAt, scanned}
 use Rattle.filler.proofs.Inputs.{inputs-count}
@@ -34,9 +35,11 @@ operation-fault-requires : tie.Need-operation-fault-requires Inv-loop μ-loop
 operation-fault-requires c κs = search needs
 
 add-t11 : tie.Need-add-t11 Inv-loop μ-loop
+unfolding limit
 add-t11 c = search needs
 
 add-t12 : tie.Need-add-t12 Inv-loop μ-loop
+unfolding limit
 add-t12 c = search needs
 
 returns : tie.Need-returns Inv-loop μ-loop

@@ -3,6 +3,7 @@
 use native.Mathlib.Omega.{arith}
 use lib.ListN.{length-set}
 use borrow.Author.Tests.{eq-eqb, ne-eqb}
+use Rattle.memory.specs.Rows.{limit}
 use Rattle.filler.specs.Steps.{pushTurn, pushed}
 use borrow.Author.Needs.{needs}
 use Rattle.filler.proofs.steps.push.Statement.{statement}
@@ -58,6 +59,7 @@ slice-write-scratch-2 : tie.Need-slice-write-scratch-2
 slice-write-scratch-2 c = let inside = c .before .before .before .before .before .before .before .before .before .before .pre .1 .free (c .before .if1 .left) in simp length-set (omega (arith, c .before .before .before .before .before .before .before .before .before .before .pre .1))
 
 add-t16 : tie.Need-add-t16
+unfolding limit
 add-t16 c = search needs
 
 add-t19 : tie.Need-add-t19

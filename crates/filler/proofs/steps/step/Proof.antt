@@ -1,6 +1,7 @@
 -- `filler::steps::step` meets its contract.
 -- Assumes nothing.
 use native.Mathlib.Omega.{arith}
+use Rattle.memory.specs.Rows.{limit}
 use Rattle.filler.specs.Steps.{turn, advanced}
 use borrow.Author.Needs.{needs}
 use Rattle.filler.proofs.steps.step.Statement.{statement}
@@ -13,6 +14,7 @@ ram-requires : tie.Need-ram-requires
 ram-requires c κs = (c .before .before .before .before .before .before .before .before .pre .0, (rw (c .before .before .enum-told .given .1) at (c .before .before .before .before .before .before .before .before .pre .1)) .ready)
 
 add-t16 : tie.Need-add-t16
+unfolding limit
 add-t16 c = let ready = rw (c .before .before .before .before .before .before .before .enum-told .given .1) at (c .before .before .before .before .before .before .before .before .before .before .before .before .before .pre .1) in omega arith
 
 enum-told-2 : tie.Need-enum-told-2

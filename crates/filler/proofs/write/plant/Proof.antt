@@ -4,7 +4,6 @@ use native.Mathlib.Omega.{arith}
 use mathlib.Core.Path.{_≡_, sym}
 use lib.ListN.{length}
 use lib.Seq.{length-take-le}
-use Rattle.memory.specs.Rows.{limit}
 use Rattle.filler.proofs.Planted.{planted}
 use borrow.Author.Needs.{needs}
 use Rattle.filler.proofs.write.plant.Statement.{statement}
@@ -23,7 +22,6 @@ same-length : tie.Need-same-length
 same-length c = search needs
 
 returns : tie.Need-returns
-unfolding limit
 returns c = let long : length (c .before .before .grow .last .1 .0) ≡ c .before .before .before .before .before .before .args .n = omega (arith, c .before .before .grow .kept, length-take-le (c .before .before .before .before .before .before .args .n) (c .before .before .before .before .before .before .args .scratch .now) (c .before .before .before .before .before .before .pre .0 .1)) in
     planted (c .before .before .before .before .before .before .args .n) (c .before .before .before .before .before .before .args .inits .now) (c .before .before .before .before .before .before .args .scratch .now) _ (c .before .before .before .before .before .before .pre .0 .0) (c .before .before .before .before .before .before .pre .0 .1) (c .before .before .before .before .before .before .pre .0 .2) (c .before .before .before .before .before .before .pre .1) long (c .before .before .grow .ensures)
 

@@ -1,12 +1,12 @@
--- `filler::faults::below` meets its contract.
+-- `rules::inputs::below` meets its contract.
 -- Assumes nothing.
 use mathlib.Core.Path.{sym}
 use mathlib.Core.Bool.{and-true}
 use borrow.Author.Tests.{lt-ltb, le-ltb}
 use Rattle.field.specs.Field.{p}
 use Rattle.memory.specs.Bytes.{allBelow}
-use Rattle.filler.proofs.faults.below.Statement.{statement}
-use Rattle.filler.proofs.faults.below.Tie as tie
+use Rattle.rules.proofs.inputs.below.Statement.{statement}
+use Rattle.rules.proofs.inputs.below.Tie as tie
 
 returns : tie.Need-returns
 unfolding allBelow p
