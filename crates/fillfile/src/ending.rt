@@ -3,6 +3,7 @@ use super::line;
 use filler::Filled;
 use memory::Intake;
 use memory::Memory;
+use memory::numbers;
 use print::Put;
 ghost use mathlib.Core.Path.{_≡_};
 ghost use lib.ListN.{length};
@@ -37,12 +38,12 @@ fn ended(intake: Intake) -> Intake
     }
     let place = intake.place;
     match place {
-        1 => line::refuse(intake, 1, 1),
-        2 => line::refuse(intake, 7, 2),
-        3 => line::refuse(intake, 7, 3),
+        1 => line::refuse(intake, numbers::NOT_NAMES, 1),
+        2 => line::refuse(intake, numbers::NOT_COMPLETE, 2),
+        3 => line::refuse(intake, numbers::NOT_COMPLETE, 3),
         _ => {
             if (intake.passed as usize) < line::due(intake) {
-                line::refuse_row(intake, 7)
+                line::refuse_row(intake, numbers::NOT_COMPLETE)
             } else {
                 intake
             }

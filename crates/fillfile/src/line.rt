@@ -5,6 +5,7 @@ use lines::filling::Task;
 use memory::Intake;
 use memory::Op;
 use memory::Phase;
+use memory::numbers;
 use rules::counters;
 use rules::inputs;
 use rules::ops;
@@ -124,7 +125,7 @@ fn row(intake: Intake, text: &[u8], ended: bool, words: &mut [u32]) -> Intake
     ensures { λ r. ⌜ gathered r (now (words .exit)) ≡ rowTaken p (gathered intake (now (words .entry))) (record { text = now (text .entry); ended = ended }) ⌝ }
 {
     if due(intake) <= intake.passed as usize {
-        return refuse_row(intake, 7);
+        return refuse_row(intake, numbers::NOT_COMPLETE);
     }
     match filling::input_line(text, ended) {
         Given::Row {

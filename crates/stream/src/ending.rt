@@ -2,6 +2,7 @@
 use super::line;
 use memory::Report;
 use memory::Stand;
+use memory::numbers;
 ghost use mathlib.Core.Path.{_≡_};
 ghost use Rattle.field.specs.Field.{p};
 ghost use Rattle.memory.specs.Pieces.{piece};
@@ -14,11 +15,11 @@ fn ended(stand: Stand) -> Report
     let place = stand.place;
     let state = stand.state;
     match place {
-        1 => checker::report(line::refused(1, 1)),
-        2 => checker::report(line::refused(7, 2)),
+        1 => checker::report(line::refused(numbers::NOT_NAMES, 1)),
+        2 => checker::report(line::refused(numbers::NOT_COMPLETE, 2)),
         3 => {
             if line::takes_rows(state) {
-                checker::report(line::refused(7, 3))
+                checker::report(line::refused(numbers::NOT_COMPLETE, 3))
             } else {
                 checker::report(state)
             }

@@ -1,6 +1,7 @@
 // A file in pieces, and whole. A caller that reads a file block by block keeps one buffer: `start`, then for each block `advance`, and `finish` at the end of input.
 use memory::Report;
 use memory::Stand;
+use memory::numbers;
 
 mod block;
 mod ending;
@@ -27,7 +28,7 @@ pub fn start() -> Progress
     Progress {
         stand: Stand {
             place: 1,
-            state: line::refused(1, 1),
+            state: line::refused(numbers::NOT_NAMES, 1),
         },
         kept: 0,
     }
