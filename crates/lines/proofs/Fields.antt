@@ -1,26 +1,24 @@
 -- Reading a comma and a number, again and again, finds the fields of a line: its numbers, where each field is one and there are as many as are wanted.
 -- Assumes nothing.
-use Prim.Native.Nat.{ℕ, zero, suc, _+_, _≤_, _<_}
+use Prim.Native.Nat.{ℕ, zero, suc, _+_, _-_, _≤_, _<_}
 use mathlib.Core.Path.{_≡_, refl, sym, ap, _∙_}
 use mathlib.Core.Bool.{Bool, true, false, _&&_, _||_, not, cond, and-true, and-false, true≢false}
 use mathlib.Core.Option.{Option, none, some}
 use mathlib.Core.List.{List, [], _∷_, _++_, append-nil}
 use mathlib.Core.Logic.{⊎-elim}
-use native.Mathlib.Nat.{eq-or-lt-of-le}
+use native.Mathlib.Nat.{eq-or-lt-of-le, sub-zero}
 use native.Mathlib.Numerals.{add-one}
 use native.Mathlib.Omega.{arith}
 use lib.Dec.{eqb, leb, leb·zero, leb·suc-suc, leb·suc-zero, eqb·suc-suc}
-use lib.ListN.{length, getD, drop, length-drop}
-use lib.Seq.{drop-cons, drop-drop, drop-length}
+use lib.ListN.{length, getD, set, take, drop, length-set, length-drop}
+use lib.Seq.{take-all, drop-cons, drop-drop, drop-length, take-suc-set}
 use borrow.Author.Tests.{eq-eqb, ne-eqb, le-leb, lt-leb}
 use Rattle.memory.specs.Bytes.{longest, fitting, comma, onto, fields, digit, digits, decimalFrom, numeral, numerals, numbers}
 use Rattle.lines.specs.declared.Name.{Name}
 use Rattle.lines.specs.declared.Number.{Number}
 use Rattle.lines.specs.declared.Number.the-variants.{Read, Unread}
-use Rattle.lines.specs.declared.Split.{Split}
-use Rattle.lines.specs.declared.Split.the-variants.{Seven, Malformed}
 use Rattle.lines.specs.Keys.{keyOf}
-use Rattle.lines.specs.Walk.{run, most, numberOf, numberFrom, first, nameOf, valuesOf, splitFields, splitOf}
+use Rattle.lines.specs.Walk.{run, most, numberOf, numberFrom, first, nameOf, Taken, taken, malformed, fieldsTaken, lineTaken}
 use Rattle.lines.proofs.Numbers.{run-within}
 use Rattle.lines.proofs.Names.{first-within}
 
@@ -252,26 +250,26 @@ fields-past-first (b ∷ bs) = by (eqb b comma) refl (fields-past-first bs)
     by true is rest = rw is
     by false other rest = rest ∙ rw (fields-first bs)
 
--- the six numbers that are read after the name, with its key
-unfoldable pub splitWith : ℕ → Option (List ℕ) → Split
-splitWith key none = Malformed
-splitWith key (some ns) = Seven (valuesOf key ns)
+-- the numbers that are read after the name, with its key
+unfoldable takenWith : ℕ → Option (List ℕ) → Taken
+takenWith key none = malformed
+takenWith key (some ns) = taken key ns
 
-split-cond :
-    (seven numbered : Bool) (key : ℕ) (ns : List ℕ)
-    → cond seven (cond numbered (Seven (valuesOf key ns)) Malformed) Malformed ≡ splitWith key (cond (seven && numbered) (some ns) none)
-unfolding splitWith
-split-cond true true key ns = refl
-split-cond true false key ns = refl
-split-cond false numbered key ns = refl
+taken-cond :
+    (many numbered : Bool) (key : ℕ) (ns : List ℕ)
+    → cond many (cond numbered (taken key ns) malformed) malformed ≡ takenWith key (cond (many && numbered) (some ns) none)
+unfolding takenWith
+taken-cond true true key ns = refl
+taken-cond true false key ns = refl
+taken-cond false numbered key ns = refl
 
 -- are what the line is taken apart to
-pub read-line : (text : List ℕ) → splitFields (fields text) ≡ splitWith (keyOf (first text)) (readFrom 6 text (length (first text)))
-unfolding splitFields numbersOf
-read-line text =
-    rw (read-fields 6 text (length (first text)) (first-within text), fields-past-first text, fields-first text)
-    (split-cond
-    (eqb (suc (length (drop 1 (fields text)))) 7)
+read-line : (total : ℕ) (text : List ℕ) → fieldsTaken total (fields text) ≡ takenWith (keyOf (first text)) (readFrom total text (length (first text)))
+unfolding fieldsTaken numbersOf
+read-line total text =
+    rw (read-fields total text (length (first text)) (first-within text), fields-past-first text, fields-first text)
+    (taken-cond
+    (eqb (suc (length (drop 1 (fields text)))) (suc total))
     (numerals (drop 1 (fields text)))
     (keyOf (first text))
     (numbers (drop 1 (fields text))))
@@ -297,70 +295,91 @@ prepends-some [] ws = refl
 prepends-some (v ∷ vs) ws = rw (prepends-some vs ws)
 
 -- the line is taken apart to the numbers that are read, if it fits
-split-is :
-    (text : List ℕ) (ended : Bool) (numbers : Option (List ℕ))
-    → length text ≤ 80 → ended ≡ true → readFrom 6 text (length (first text)) ≡ numbers
-    → splitWith (keyOf (first text)) numbers ≡ splitOf (record { text = text; ended = ended })
-unfolding splitOf fitting longest
-split-is text ended numbers fits is reads = rw (le-leb (length text) 80 fits, is, read-line text, reads)
+line-is :
+    (total : ℕ) (text : List ℕ) (ended : Bool) (read : Option (List ℕ))
+    → length text ≤ 80 → ended ≡ true → readFrom total text (length (first text)) ≡ read
+    → takenWith (keyOf (first text)) read ≡ lineTaken total (record { text = text; ended = ended })
+unfolding lineTaken fitting longest
+line-is total text ended read fits is reads = rw (le-leb (length text) 80 fits, is, read-line total text, reads)
 
--- A line that fits is being read: the numbers vs are read, and k are left from a position on
-pub record Reading (text : List ℕ) (ended : Bool) (k : ℕ) (vs : List ℕ) (at : ℕ) : Type 0 where
+-- A line that fits is being read: of `total` numbers the first i stand in ns, and the others are read from a position on
+pub record Reading (total : ℕ) (text : List ℕ) (ended : Bool) (ns : List ℕ) (i at : ℕ) : Type 0 where
   pub fits : length text ≤ 80
   pub whole : ended ≡ true
-  pub reads : readFrom 6 text (length (first text)) ≡ prepends vs (readFrom k text at)
+  pub many : length ns ≡ total
+  pub inside : i ≤ total
+  pub reads : readFrom total text (length (first text)) ≡ prepends (take i ns) (readFrom (total - i) text at)
 
 pub reading-begins :
-    {text : List ℕ} {ended : Bool} {name : Name}
-    → length text ≤ 80 → ended ≡ true → name ≡ nameOf (first text) → Reading text ended 6 [] (name .next)
+    {text : List ℕ} {ended : Bool} {name : Name} (ns : List ℕ)
+    → length text ≤ 80 → ended ≡ true → name ≡ nameOf (first text) → Reading (length ns) text ended ns 0 (name .next)
 unfolding prepends nameOf
-reading-begins {text} fits whole is =
-    record { fits = fits; whole = whole; reads = ap (λ (n : Name). readFrom 6 text (n .next)) (sym is) }
+reading-begins {text} ns fits whole is =
+    record {
+      fits = fits;
+      whole = whole;
+      many = refl;
+      inside = omega arith;
+      reads = rw (sub-zero (length ns)) (ap (λ (n : Name). readFrom (length ns) text (n .next)) (sym is));
+    }
 
-module _
-    {text : List ℕ} {ended : Bool} {k : ℕ} {vs : List ℕ} {at : ℕ} (reading : Reading text ended (suc k) vs at) {found : Number}
-    (is : found ≡ numberFrom at (drop at text))
-  where
-    -- a number is read
-    pub reading-goes : {v next : ℕ} → found ≡ Read v next → Reading text ended k (vs ++ v ∷ []) next
+module _ {total : ℕ} {text : List ℕ} {ended : Bool} {ns : List ℕ} {i at : ℕ} (reading : Reading total text ended ns i at) where
+  -- one of the numbers that are left is read
+  reading-next : i < total → readFrom total text (length (first text)) ≡ prepends (take i ns) (readFrom (suc (total - (i + 1))) text at)
+  reading-next left = reading .reads ∙ ap (λ (k : ℕ). prepends (take i ns) (readFrom k text at)) (omega arith)
+
+  module _ (left : i < total) {found : Number} (is : found ≡ numberFrom at (drop at text)) where
+    pub reading-goes : {v next : ℕ} → found ≡ Read v next → Reading total text ended (set ns i v) (i + 1) next
     unfolding readFrom readOn
     reading-goes {v} {next} goes =
         record {
           fits = reading .fits;
           whole = reading .whole;
+          many = length-set ns i v ∙ reading .many;
+          inside = omega arith;
           reads =
-              reading .reads
-              ∙ ap (λ (n : Number). prepends vs (readOn n (λ m. readFrom k text m))) (sym is ∙ goes)
-              ∙ prepends-more vs v (readFrom k text next);
+              reading-next left
+              ∙ ap (λ (n : Number). prepends (take i ns) (readOn n (λ m. readFrom (total - (i + 1)) text m))) (sym is ∙ goes)
+              ∙ prepends-more (take i ns) v (readFrom (total - (i + 1)) text next)
+              ∙ rw (add-one i, take-suc-set ns i v (omega arith));
         }
 
-    -- none is
-    pub reading-fails : found ≡ Unread → Malformed ≡ splitOf (record { text = text; ended = ended })
-    unfolding readFrom readOn splitWith
+    -- or is none
+    pub reading-fails : found ≡ Unread → malformed ≡ lineTaken total (record { text = text; ended = ended })
+    unfolding readFrom readOn takenWith
     reading-fails fails =
-        split-is text ended none (reading .fits) (reading .whole)
-        (reading .reads ∙ ap (λ (n : Number). prepends vs (readOn n (λ m. readFrom k text m))) (sym is ∙ fails) ∙ prepends-none vs)
+        line-is total text ended none (reading .fits) (reading .whole)
+        (reading-next left
+        ∙ ap (λ (n : Number). prepends (take i ns) (readOn n (λ m. readFrom (total - (i + 1)) text m))) (sym is ∙ fails)
+        ∙ prepends-none (take i ns))
 
--- the last number is the end of the line, or is not
-module _ {text : List ℕ} {ended : Bool} {vs : List ℕ} {at : ℕ} (reading : Reading text ended 0 vs at) where
-  pub reading-ends : {name : Name} → name ≡ nameOf (first text) → at ≡ length text → Seven (valuesOf (name .key) vs) ≡ splitOf (record { text = text; ended = ended })
-  unfolding readFrom splitWith nameOf
-  reading-ends named ends =
-      ap (λ (n : Name). Seven (valuesOf (n .key) vs)) named
-      ∙ split-is text ended (some vs) (reading .fits) (reading .whole)
-      (reading .reads ∙ rw (eq-eqb at (length text) ends) (prepends-some vs [] ∙ ap some (append-nil vs)))
+  -- none is left
+  reading-last : total ≤ i → readFrom total text (length (first text)) ≡ prepends ns (readFrom 0 text at)
+  reading-last over =
+      reading .reads
+      ∙ ap (λ (k : ℕ). prepends (take i ns) (readFrom k text at)) (omega arith)
+      ∙ ap (λ (vs : List ℕ). prepends vs (readFrom 0 text at)) (take-all i ns (omega arith))
 
-  pub reading-over : (at ≡ length text → ⊥) → Malformed ≡ splitOf (record { text = text; ended = ended })
-  unfolding readFrom splitWith
-  reading-over more =
-      split-is text ended none (reading .fits) (reading .whole)
-      (reading .reads ∙ rw (ne-eqb at (length text) more) (prepends-none vs))
+  -- and the last number ends the line, or does not
+  pub reading-ends : total ≤ i → {name : Name} → name ≡ nameOf (first text) → at ≡ length text → taken (name .key) ns ≡ lineTaken total (record { text = text; ended = ended })
+  unfolding readFrom takenWith nameOf
+  reading-ends over named ends =
+      ap (λ (n : Name). taken (n .key) ns) named
+      ∙ line-is total text ended (some ns) (reading .fits) (reading .whole)
+      (reading-last over ∙ rw (eq-eqb at (length text) ends) (prepends-some ns [] ∙ ap some (append-nil ns)))
+
+  pub reading-over : total ≤ i → (at ≡ length text → ⊥) → malformed ≡ lineTaken total (record { text = text; ended = ended })
+  unfolding readFrom takenWith
+  reading-over over more =
+      line-is total text ended none (reading .fits) (reading .whole)
+      (reading-last over ∙ rw (ne-eqb at (length text) more) (prepends-none ns))
 
 -- a line that does not fit is taken apart to none
-pub split-long : (text : List ℕ) (ended : Bool) → 80 < length text → Malformed ≡ splitOf (record { text = text; ended = ended })
-unfolding splitOf fitting longest
-split-long text ended long = rw (lt-leb (length text) 80 long)
+module _ (total : ℕ) (text : List ℕ) (ended : Bool) where
+  pub line-long : 80 < length text → malformed ≡ lineTaken total (record { text = text; ended = ended })
+  unfolding lineTaken fitting longest
+  line-long long = rw (lt-leb (length text) 80 long)
 
-pub split-broken : (text : List ℕ) (ended : Bool) → ended ≡ false → Malformed ≡ splitOf (record { text = text; ended = ended })
-unfolding splitOf fitting longest
-split-broken text ended is = rw (is, and-false)
+  pub line-broken : ended ≡ false → malformed ≡ lineTaken total (record { text = text; ended = ended })
+  unfolding lineTaken fitting longest
+  line-broken is = rw (is, and-false)

@@ -3,7 +3,7 @@ pub mod Numbers
 pub mod Names
 pub mod Fields
 pub mod Keys
+pub mod Elements
 pub mod Parse
 pub mod Same
-pub mod Short
 pub mod Limits

@@ -1,4 +1,3 @@
 pub mod Keys
 pub mod Walk
-pub mod Short
 pub mod Answers

@@ -5,18 +5,13 @@ use mathlib.Core.Bool.{cond}
 use mathlib.Core.List.{List, [], _∷_}
 use lib.Dec.{eqb}
 use lib.ListN.{length, getD, drop}
-use Rattle.field.specs.Field.{p}
-use Rattle.memory.specs.Bytes.{Line, fitting, comma, fields, digit, decimalFrom, numeral, numerals, numbers, allBelow}
+use Rattle.memory.specs.Bytes.{Line, fitting, comma, fields, digit, decimalFrom, numeral, numerals, numbers}
 use Rattle.lines.specs.declared.Run.{Run}
 use Rattle.lines.specs.declared.Number.{Number}
 use Rattle.lines.specs.declared.Number.the-variants.{Read, Unread}
 use Rattle.lines.specs.declared.Name.{Name}
-use Rattle.lines.specs.declared.Values.{Values}
 use Rattle.lines.specs.declared.Split.{Split}
-use Rattle.lines.specs.declared.Split.the-variants.{Seven, Malformed}
-use Rattle.lines.specs.declared.Elements.{Elements}
-use Rattle.lines.specs.declared.Narrowed.{Narrowed}
-use Rattle.lines.specs.declared.Narrowed.the-variants.{Below, Large}
+use Rattle.lines.specs.declared.Split.the-variants.{Key, Malformed}
 use Rattle.lines.specs.Keys.{keyOf}
 
 -- the digits at the front of a text, at most k of them
@@ -51,46 +46,22 @@ first (b ∷ bs) = cond (eqb b comma) [] (b ∷ first bs)
 unfoldable pub nameOf : List ℕ → Name
 nameOf name = record { key = keyOf name; next = length name }
 
--- a key and six numbers
-unfoldable pub valuesOf : ℕ → List ℕ → Values
-valuesOf key ns =
-    record {
-      key = key;
-      first = getD ns 0 0;
-      second = getD ns 1 0;
-      third = getD ns 2 0;
-      fourth = getD ns 3 0;
-      fifth = getD ns 4 0;
-      sixth = getD ns 5 0;
-    }
+-- What a line is taken apart to: the key of its name, and its numbers; nothing where it meets 2
+pub data Taken : Type 0 where
+  taken : ℕ → List ℕ → Taken
+  malformed : Taken
 
--- what the fields of a line are taken apart to: seven of them, and each after the first a number
-unfoldable pub splitFields : List (List ℕ) → Split
-splitFields fs =
-    cond (eqb (length fs) 7)
-    (cond (numerals (drop 1 fs)) (Seven (valuesOf (keyOf (getD fs 0 [])) (numbers (drop 1 fs)))) Malformed)
-    Malformed
+-- what the fields of a line are taken apart to, where a name and k numbers are due
+unfoldable pub fieldsTaken : ℕ → List (List ℕ) → Taken
+fieldsTaken k fs =
+    cond (eqb (length fs) (suc k))
+    (cond (numerals (drop 1 fs)) (taken (keyOf (getD fs 0 [])) (numbers (drop 1 fs))) malformed)
+    malformed
 
--- what a line is taken apart to
-unfoldable pub splitOf : Line → Split
-splitOf line = cond (fitting line) (splitFields (fields (line .text))) Malformed
+unfoldable pub lineTaken : ℕ → Line → Taken
+lineTaken k line = cond (fitting line) (fieldsTaken k (fields (line .text))) malformed
 
--- the six numbers, as a list
-unfoldable pub six : Values → List ℕ
-six v = v .first ∷ v .second ∷ v .third ∷ v .fourth ∷ v .fifth ∷ v .sixth ∷ []
-
--- the six numbers, as elements
-unfoldable pub elementsOf : Values → Elements
-elementsOf v =
-    record {
-      first = v .first;
-      second = v .second;
-      third = v .third;
-      fourth = v .fourth;
-      fifth = v .fifth;
-      sixth = v .sixth;
-    }
-
--- if each is below p
-unfoldable pub narrowed : Values → Narrowed
-narrowed v = cond (allBelow p (six v)) (Below (elementsOf v)) Large
+-- what an answer says that a line is taken apart to, with the numbers that it leaves in the slice lent to it
+unfoldable pub splitOf : List ℕ → Split → Taken
+splitOf ns (Key key) = taken key ns
+splitOf ns Malformed = malformed

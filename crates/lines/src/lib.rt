@@ -9,7 +9,7 @@ ghost use Rattle.memory.specs.Names.{valueNames, rowNames};
 ghost use Rattle.memory.specs.Rows.{parseRow};
 ghost use Rattle.memory.specs.File.{parseValues, namesFault};
 ghost use Rattle.lines.specs.Keys.{opKeyed, memoryKeyed, knownOf};
-ghost use Rattle.lines.specs.Walk.{most, run, digitsOf, numberFrom, first, nameOf, splitOf, six, narrowed};
+ghost use Rattle.lines.specs.Walk.{most, run, digitsOf, numberFrom, first, nameOf, lineTaken, splitOf};
 ghost use Rattle.lines.specs.Answers.{openingOf};
 
 pub mod filling;
@@ -68,37 +68,10 @@ struct Name {
     next: usize,
 }
 
-// The seven fields of a line: the key of the first, and six numbers.
-struct Values {
-    key: u64,
-    first: u64,
-    second: u64,
-    third: u64,
-    fourth: u64,
-    fifth: u64,
-    sixth: u64,
-}
-
-// What a line is taken apart to; `Malformed` is 2.
+// What a line is taken apart to: the key of its name, its numbers being in the slice that was lent; `Malformed` is 2.
 enum Split {
-    Seven(Values),
+    Key(u64),
     Malformed,
-}
-
-// The six numbers as elements of the field.
-struct Elements {
-    first: u32,
-    second: u32,
-    third: u32,
-    fourth: u32,
-    fifth: u32,
-    sixth: u32,
-}
-
-// Whether the six numbers are elements; `Large` is 3.
-enum Narrowed {
-    Below(Elements),
-    Large,
 }
 
 // Whether a name is that of a memory; `Unknown` is 4.
@@ -197,74 +170,43 @@ fn name_of(text: &[u8]) -> Name
     }
 }
 
-// The seven fields of a line, each of its bytes read once.
-fn split_line(text: &[u8], ended: bool) -> Split
-    ensures { λ r. ⌜ r ≡ splitOf (record { text = now (text .entry); ended = ended }) ⌝ }
+// The fields of a line, a name and as many numbers as are lent, each of its bytes read once.
+fn split_line(text: &[u8], ended: bool, numbers: &mut [u64]) -> Split
+    ensures { λ r. ⌜ splitOf (now (numbers .exit)) r ≡ lineTaken (length (now (numbers .entry))) (record { text = now (text .entry); ended = ended }) ⌝ }
 {
     if LONGEST < text.len() || !ended {
         return Split::Malformed;
     }
     let name = name_of(text);
-    let Number::Read(first, next) = number_at(text, name.next) else {
-        return Split::Malformed;
-    };
-    let Number::Read(second, next) = number_at(text, next) else {
-        return Split::Malformed;
-    };
-    let Number::Read(third, next) = number_at(text, next) else {
-        return Split::Malformed;
-    };
-    let Number::Read(fourth, next) = number_at(text, next) else {
-        return Split::Malformed;
-    };
-    let Number::Read(fifth, next) = number_at(text, next) else {
-        return Split::Malformed;
-    };
-    let Number::Read(sixth, next) = number_at(text, next) else {
-        return Split::Malformed; // 2, also where a number before it is p or more
-    };
+    let mut next = name.next;
+    let mut i = 0;
+    while i < numbers.len() {
+        let Number::Read(value, after) = number_at(text, next) else {
+            return Split::Malformed; // 2, also where a number before it is p or more
+        };
+        numbers[i] = value;
+        next = after;
+        i += 1;
+    }
     if next != text.len() {
         return Split::Malformed;
     }
-    Split::Seven(Values {
-        key: name.key,
-        first,
-        second,
-        third,
-        fourth,
-        fifth,
-        sixth,
-    })
+    Split::Key(name.key)
 }
 
 // 3: "a number is p or more"
-fn below(values: Values) -> bool
-    ensures { λ r. ⌜ r ≡ allBelow p (six values) ⌝ }
+fn below(numbers: &[u64]) -> bool
+    ensures { λ r. ⌜ r ≡ allBelow p (now (numbers .entry)) ⌝ }
 {
     let p = Field::MODULUS as u64;
-    values.first < p
-        && values.second < p
-        && values.third < p
-        && values.fourth < p
-        && values.fifth < p
-        && values.sixth < p
-}
-
-fn narrow(values: Values) -> Narrowed
-    ensures { λ r. ⌜ r ≡ narrowed values ⌝ }
-{
-    if below(values) {
-        Narrowed::Below(Elements {
-            first: values.first as u32,
-            second: values.second as u32,
-            third: values.third as u32,
-            fourth: values.fourth as u32,
-            fifth: values.fifth as u32,
-            sixth: values.sixth as u32,
-        })
-    } else {
-        Narrowed::Large
+    let mut i = 0;
+    while i < numbers.len() {
+        if p <= numbers[i] {
+            return false;
+        }
+        i += 1;
     }
+    true
 }
 
 // The op whose name has the key: a 1, and the bytes of the name.
@@ -304,20 +246,21 @@ fn memory_of(key: u64) -> Known
 pub fn row_line(text: &[u8], ended: bool) -> Parsed
     ensures { λ r. ⌜ r ≡ parseRow p (record { text = now (text .entry); ended = ended }) ⌝ }
 {
-    let Split::Seven(values) = split_line(text, ended) else {
+    let mut columns = [0u64; 6];
+    let Split::Key(key) = split_line(text, ended, &mut columns) else {
         return Parsed::Fault(numbers::UNREADABLE);
     };
-    let Narrowed::Below(elements) = narrow(values) else {
+    if !below(&columns) {
         return Parsed::Fault(numbers::TOO_LARGE);
-    };
+    }
     Parsed::Sound(Row {
-        op: op_of(values.key),
-        guard: elements.first,
-        addr: elements.second,
-        value: elements.third,
-        old: elements.fourth,
-        time: elements.fifth,
-        version: elements.sixth,
+        op: op_of(key),
+        guard: columns[0] as u32,
+        addr: columns[1] as u32,
+        value: columns[2] as u32,
+        old: columns[3] as u32,
+        time: columns[4] as u32,
+        version: columns[5] as u32,
     })
 }
 
@@ -325,24 +268,25 @@ pub fn row_line(text: &[u8], ended: bool) -> Parsed
 pub fn value_line(text: &[u8], ended: bool) -> Opened
     ensures { λ r. ⌜ openingOf r ≡ parseValues p (record { text = now (text .entry); ended = ended }) ⌝ }
 {
-    let Split::Seven(values) = split_line(text, ended) else {
+    let mut values = [0u64; 6];
+    let Split::Key(key) = split_line(text, ended, &mut values) else {
         return Opened::Shut(numbers::UNREADABLE);
     };
-    let Narrowed::Below(elements) = narrow(values) else {
+    if !below(&values) {
         return Opened::Shut(numbers::TOO_LARGE);
-    };
-    let Known::Is(memory) = memory_of(values.key) else {
+    }
+    let Known::Is(memory) = memory_of(key) else {
         return Opened::Shut(numbers::NOT_ALLOWED);
     };
     Opened::Opens {
         memory,
-        size: elements.first,
-        count: elements.second,
+        size: values[0] as u32,
+        count: values[1] as u32,
         challenge: Challenge {
-            r: elements.third,
-            a: elements.fourth,
-            b: elements.fifth,
-            c: elements.sixth,
+            r: values[2] as u32,
+            a: values[3] as u32,
+            b: values[4] as u32,
+            c: values[5] as u32,
         },
     }
 }

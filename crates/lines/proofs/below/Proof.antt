@@ -1,47 +1,63 @@
--- `lines::below` meets its contract: where the tests meet, what they hand on is whether all the numbers so far are below p.
+-- `lines::below` meets its contract. The loop's invariant: all the numbers are below p if those that are left are.
 -- Assumes nothing.
-use mathlib.Core.Path.{_≡_, sym, _∙_}
-use mathlib.Core.Bool.{_&&_, and-assoc, and-true}
-use mathlib.Core.Logic.{⊎-elim}
-use lib.Dec.{ltb}
+use Prim.Native.Nat.{_-_}
+use mathlib.Core.Path.{_≡_, refl, sym, _∙_}
+use native.Mathlib.Omega.{arith}
+use lib.ListN.{length, drop}
 use borrow.Author.Needs.{needs}
-use borrow.Author.Tests.{lt-ltb, le-ltb}
-use Rattle.field.specs.Field.{p}
+use Rattle.field.specs.Field as field
 use Rattle.memory.specs.Bytes.{allBelow}
-use Rattle.lines.specs.Walk.{six}
+use Rattle.lines.proofs.Elements.{below-goes, below-stops, below-ends}
 use Rattle.lines.proofs.below.Statement.{statement}
 use Rattle.lines.proofs.below.Tie as tie
 
-two : (c : tie.Joined1) → let v = c .before .before .args .values in c .if1 .if2 ≡ (ltb (v .first) p && ltb (v .second) p)
-unfolding p
-two c =
-    ⊎-elim (λ w. w .2 ∙ rw (lt-ltb _ _ (w .0 .taken))) (λ w. w .1 ∙ rw (le-ltb _ _ (w .0 .left))) (c .if1 .came)
+abbrev Inv-loop : tie.InvT-loop
+Inv-loop numbers p i₀ i = allBelow field.p (drop i numbers) ≡ allBelow field.p numbers
 
-three : (c : tie.Joined2) → let v = c .before .before .before .args .values in c .if2 .if3 ≡ (c .before .if1 .if2 && ltb (v .third) p)
-unfolding p
-three c = ⊎-elim (λ w. w .2 ∙ rw (w .0 .taken)) (λ w. w .1 ∙ rw (w .0 .left)) (c .if2 .came)
+abbrev μ-loop : tie.MeasureT-loop
+μ-loop numbers p i₀ i = length numbers - i
 
-four : (c : tie.Joined3) → let v = c .before .before .before .before .args .values in c .if3 .if4 ≡ (c .before .if2 .if3 && ltb (v .fourth) p)
-unfolding p
-four c = ⊎-elim (λ w. w .2 ∙ rw (w .0 .taken)) (λ w. w .1 ∙ rw (w .0 .left)) (c .if3 .came)
-
-five : (c : tie.Joined4) → let v = c .before .before .before .before .before .args .values in c .if4 .if5 ≡ (c .before .if3 .if4 && ltb (v .fifth) p)
-unfolding p
-five c = ⊎-elim (λ w. w .2 ∙ rw (w .0 .taken)) (λ w. w .1 ∙ rw (w .0 .left)) (c .if4 .came)
-
-all : (c : tie.Joined4) → let v = c .before .before .before .before .before .args .values in allBelow p (six v) ≡ (c .if4 .if5 && ltb (v .sixth) p)
-unfolding allBelow six
-all c = rw (five c, four (c .before), three (c .before .before), two (c .before .before .before)) (simp (and-assoc, and-true))
-
-cast-p : tie.Need-cast-p
+cast-p : tie.Need-cast-p Inv-loop μ-loop
 cast-p c = search needs
 
-returns : tie.Need-returns
-unfolding p
-returns c = sym (all (c .before .before) ∙ rw (c .before .if5 .taken))
+loop-holds : tie.Need-loop-holds Inv-loop μ-loop
+loop-holds c = refl
 
-returns-2 : tie.Need-returns-2
-returns-2 c = c .if5 .left ∙ sym (all (c .before) ∙ rw (c .if5 .left))
+mul-if1 : tie.Need-mul-if1 Inv-loop μ-loop
+mul-if1 c = search needs
+
+shared-slice-read-if1 : tie.Need-shared-slice-read-if1 Inv-loop μ-loop
+shared-slice-read-if1 c = search needs
+
+returns : tie.Need-returns Inv-loop μ-loop
+unfolding field.p
+returns c = below-stops _ _ (c .before .before .loop-test .taken) (c .if1 .taken) ∙ c .before .before .before .loop .inv
+
+add-i : tie.Need-add-i Inv-loop μ-loop
+add-i c = search needs
+
+loop-less : tie.Need-loop-less Inv-loop μ-loop
+loop-less c = search needs
+
+loop-again : tie.Need-loop-again Inv-loop μ-loop
+unfolding field.p
+loop-again c = below-goes _ _ (c .before .before .loop-test .taken) (c .if1 .left) ∙ c .before .before .before .loop .inv
+
+returns-2 : tie.Need-returns-2 Inv-loop μ-loop
+returns-2 c = below-ends _ _ (c .loop-test .left) ∙ c .before .loop .inv
 
 pub below-spec : {M : Type 1} → statement M
-below-spec = tie.close (tie.spec cast-p returns returns-2)
+below-spec =
+    tie.close
+    (tie.spec
+    Inv-loop
+    μ-loop
+    cast-p
+    loop-holds
+    mul-if1
+    shared-slice-read-if1
+    returns
+    add-i
+    loop-less
+    loop-again
+    returns-2)

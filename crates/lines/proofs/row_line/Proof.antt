@@ -1,14 +1,18 @@
 -- `lines::row_line` meets its contract: the row is that of the line's fields.
 -- Assumes nothing.
-use mathlib.Core.Path.{_≡_, sym, ap, ap₂, _∙_}
+use mathlib.Core.Path.{_≡_, sym, ap, _∙_}
+use mathlib.Core.Bool.{true}
 use native.Mathlib.Omega.{arith}
 use borrow.Author.Needs.{needs}
+use borrow.Author.Tests.{not-true, not-false}
 use Rattle.field.specs.Field.{p}
+use Rattle.memory.specs.Bytes.{allBelow}
 use Rattle.memory.specs.Rows.{parseRow}
-use Rattle.lines.specs.Walk.{narrowed}
 use Rattle.lines.specs.Keys.{opKeyed}
+use Rattle.lines.specs.Walk.{splitOf}
 use Rattle.lines.proofs.Keys.{Bytes}
-use Rattle.lines.proofs.Parse.{rowOf, row-malformed, row-read}
+use Rattle.lines.proofs.Elements.{number-fits}
+use Rattle.lines.proofs.Parse.{onTaken, rowWith, row-taken}
 use Rattle.lines.proofs.row_line.Statement.{statement}
 use Rattle.lines.proofs.row_line.Tie as tie
 
@@ -16,59 +20,115 @@ use Rattle.lines.proofs.row_line.Tie as tie
 bytes : (c : tie.After-shared-slice-known) → Bytes (c .before .args .text .now)
 bytes c i = omega (arith, c .shared-slice-known .given i)
 
--- what seven fields read as
-seven :
+-- what the fields of the line read as
+fields-read :
     (c : tie.After-known-told)
-    → let v = c .before .values .given .0 .0 in
-    let a = c .before .before .before .before .before .args in
-    rowOf (opKeyed (v .key)) (narrowed v) ≡ parseRow p (record { text = a .text .now; ended = a .ended })
-seven c = row-read _ (bytes (c .before .before .before .before)) (c .before .before .before .split-line .ensures) (c .before .values .given .1)
+    → let s = c .before .before .before .before in
+    let a = s .before .before .before .args in
+    rowWith (opKeyed (c .before .key .given .0 .0)) (s .split-line .last .1 .1 .0) ≡ parseRow p (record { text = a .text .now; ended = a .ended })
+unfolding onTaken splitOf
+fields-read c =
+    let s = c .before .before .before .before in
+    row-taken _ (bytes (s .before .before)) (ap (splitOf _) (sym (c .before .key .given .1)) ∙ s .split-line .ensures)
+
+-- the numbers are below p
+below-all : (c : tie.Else1) → allBelow p (c .before .before .before .before .before .before .before .split-line .last .1 .1 .0) ≡ true
+below-all c = sym (c .before .below .ensures) ∙ not-false _ (c .if1 .left)
+
+slice-aggregate-split-line : tie.Need-slice-aggregate-split-line
+slice-aggregate-split-line c = search needs
 
 split-line-requires : tie.Need-split-line-requires
 split-line-requires c κs = search needs
 
-enum-known-values : tie.Need-enum-known-values
-enum-known-values c = search needs
+enum-known-key : tie.Need-enum-known-key
+enum-known-key c = search needs
 
 enum-told : tie.Need-enum-told
 enum-told c = search needs
 
 returns : tie.Need-returns
-returns c = row-malformed _ (bytes (c .before .before .before)) (c .before .before .split-line .ensures) (c .enum-told .given .1)
+unfolding onTaken splitOf
+returns c =
+    let s = c .before .before .before in
+    row-taken _ (bytes (s .before .before)) (ap (splitOf _) (sym (c .enum-told .given .1)) ∙ s .split-line .ensures)
 
-narrow-requires : tie.Need-narrow-requires
-narrow-requires c κs = search needs
+slice-aggregate-below : tie.Need-slice-aggregate-below
+slice-aggregate-below c = search needs
 
-enum-known-elements : tie.Need-enum-known-elements
-enum-known-elements c = search needs
-
-enum-told-2 : tie.Need-enum-told-2
-enum-told-2 c = search needs
+below-requires : tie.Need-below-requires
+below-requires c κs = search needs
 
 returns-2 : tie.Need-returns-2
-unfolding rowOf
-returns-2 c =
-    ap (rowOf _) (sym (c .enum-told2 .given .1) ∙ c .before .before .narrow .ensures) ∙ seven (c .before .before .before)
+unfolding rowWith
+returns-2 c = rw (sym (c .before .below .ensures) ∙ not-true _ (c .if1 .taken)) at (fields-read (c .before .before .before))
 
 op-of-requires : tie.Need-op-of-requires
 op-of-requires c κs = search needs
 
+array-read-t15 : tie.Need-array-read-t15
+array-read-t15 c = search needs
+
+cast-t16 : tie.Need-cast-t16
+cast-t16 c = number-fits _ (below-all (c .before)) 0
+
+array-read-t19 : tie.Need-array-read-t19
+array-read-t19 c = search needs
+
+cast-t20 : tie.Need-cast-t20
+cast-t20 c = number-fits _ (below-all (c .before)) 1
+
+array-read-t23 : tie.Need-array-read-t23
+array-read-t23 c = search needs
+
+cast-t24 : tie.Need-cast-t24
+cast-t24 c = number-fits _ (below-all (c .before)) 2
+
+array-read-t27 : tie.Need-array-read-t27
+array-read-t27 c = search needs
+
+cast-t28 : tie.Need-cast-t28
+cast-t28 c = number-fits _ (below-all (c .before)) 3
+
+array-read-t31 : tie.Need-array-read-t31
+array-read-t31 c = search needs
+
+cast-t32 : tie.Need-cast-t32
+cast-t32 c = number-fits _ (below-all (c .before)) 4
+
+array-read-t35 : tie.Need-array-read-t35
+array-read-t35 c = search needs
+
+cast-t36 : tie.Need-cast-t36
+cast-t36 c = number-fits _ (below-all (c .before)) 5
+
 returns-3 : tie.Need-returns-3
-unfolding rowOf
-returns-3 c =
-    ap₂ rowOf (c .op-of .ensures) (sym (c .before .before .elements .given .1) ∙ c .before .before .before .before .narrow .ensures) ∙ seven (c .before .before .before .before .before)
+unfolding rowWith
+returns-3 c = rw (c .op-of .ensures) (rw (below-all (c .before)) at (fields-read (c .before .before .before .before)))
 
 pub row-line-spec : {M : Type 1} → statement M
 row-line-spec =
     tie.close
     (tie.spec
+    slice-aggregate-split-line
     split-line-requires
-    enum-known-values
+    enum-known-key
     enum-told
     returns
-    narrow-requires
-    enum-known-elements
-    enum-told-2
+    slice-aggregate-below
+    below-requires
     returns-2
     op-of-requires
+    array-read-t15
+    cast-t16
+    array-read-t19
+    cast-t20
+    array-read-t23
+    cast-t24
+    array-read-t27
+    cast-t28
+    array-read-t31
+    cast-t32
+    array-read-t35
+    cast-t36
     returns-3)
