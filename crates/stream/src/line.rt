@@ -12,6 +12,7 @@ ghost use Rattle.field.specs.Field.{p};
 ghost use Rattle.memory.specs.File.{parseValues};
 ghost use Rattle.memory.specs.Step.{takesRows, refusedState, openedOf};
 ghost use Rattle.memory.specs.Stream.{namesRead, rowNamesRead, lineOf};
+ghost use Rattle.stream.specs.Progress.{shutNumber};
 
 // A state that has refused a line before the rows.
 pub fn refused(answer: u32, line: u32) -> State
@@ -74,19 +75,31 @@ fn named(place: u32, state: State, fault: u32) -> Stand
     }
 }
 
-// The state that the value line makes.
+// The number of a value line that is refused; 0 of any other.
+fn shut_number(opened: Opened) -> u32
+    ensures { λ r. ⌜ r ≡ shutNumber opened ⌝ }
+{
+    match opened {
+        Opened::Opens { .. } => 0,
+        Opened::Shut(fault) => fault,
+    }
+}
+
+// The state that the value line makes: fresh, or refused with its number on line 2.
 fn opened(text: &[u8], ended: bool) -> State
     ensures { λ r. ⌜ r ≡ openedOf p (parseValues p (record { text = now (text .entry); ended = ended })) ⌝ }
 {
-    match lines::value_line(text, ended) {
-        Opened::Opens {
-            memory,
-            size,
-            count,
-            challenge,
-        } => checker::fresh(memory, size, count, challenge),
-        Opened::Shut(fault) => refused(fault, 2),
-    }
+    let read = lines::value_line(text, ended);
+    let Opened::Opens {
+        memory,
+        size,
+        count,
+        challenge,
+    } = read
+    else {
+        return refused(shut_number(read), 2);
+    };
+    checker::fresh(memory, size, count, challenge)
 }
 
 // Line 3: where the value line was refused, the file keeps that answer.
