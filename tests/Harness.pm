@@ -11,7 +11,7 @@ use POSIX ();
 our @EXPORT_OK = qw(
     $P header given row rows lines with first_lines unended
     random random_from honest_input mutated
-    program_called run_program compare counted unreadable_input finish
+    program_called run_program compare counted unreadable_input unwritable_output finish
 );
 
 our $P = 2147483647;
@@ -382,6 +382,16 @@ sub unreadable_input {
         push @complaints, 'ended by signal ' . ($? & 127) if $? & 127;
         counted($name, @complaints);
     }
+}
+
+# An output that takes nothing is told on standard error.
+sub unwritable_output {
+    my ($program) = @_;
+    my $errors = qx{"$program" </dev/null 2>&1 >/dev/full};
+    my @complaints;
+    push @complaints, 'expected a message on standard error, got none' if $errors eq '';
+    push @complaints, 'ended by signal ' . ($? & 127) if $? & 127;
+    counted('standard output takes nothing', @complaints);
 }
 
 # The path of the program under test. Without a program there is nothing to test, and that is a failure.

@@ -10,7 +10,7 @@ use File::Basename qw(dirname);
 use lib dirname(__FILE__);
 use Harness qw(
     $P header row rows lines with first_lines unended random honest_input mutated
-    program_called compare counted unreadable_input finish
+    program_called compare counted unreadable_input unwritable_output finish
 );
 use Reference ();
 
@@ -1000,6 +1000,7 @@ for my $answer (0 .. 10) {
 }
 
 unreadable_input($program);
+unwritable_output($program);
 
 # Long lines, with and without a line feed.
 

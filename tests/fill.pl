@@ -10,7 +10,7 @@ use File::Basename qw(dirname);
 use lib dirname(__FILE__);
 use Harness qw(
     given rows with first_lines unended random honest_input mutated
-    program_called compare counted unreadable_input finish
+    program_called compare counted unreadable_input unwritable_output finish
 );
 use Reference ();
 
@@ -499,6 +499,7 @@ for my $answer (0 .. 7, 11 .. 13) {
 }
 
 unreadable_input($program);
+unwritable_output($program);
 
 # Inputs longer than any valid one.
 

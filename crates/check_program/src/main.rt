@@ -1,5 +1,5 @@
 // The program `check`: reads standard input to its end and prints the two lines of the report. A failed read is told on standard error, with nothing on
-// standard output.
+// standard output; so is a failed write.
 use libc::STDIN_FILENO;
 use libc::STDOUT_FILENO;
 use stream::Progress;
@@ -37,10 +37,17 @@ fn read_some(progress: Progress, buf: &mut [u8]) -> Turn {
     }
 }
 
-// Writes the first bytes of a text to standard output.
+// Writes a text to standard output.
+fn write(text: &[u8]) {
+    if !io::write_all(STDOUT_FILENO, text) {
+        os::fail(b"standard output");
+    }
+}
+
+// Writes the first bytes of a text.
 fn write_first(text: &[u8], n: usize) {
     if n <= text.len() {
-        io::write_all(STDOUT_FILENO, &text[..n]);
+        write(&text[..n]);
     }
 }
 

@@ -6,11 +6,11 @@ use borrow.Author.Needs.{needs}
 use Rattle.check_program.proofs.write_first.Statement.{statement}
 use Rattle.check_program.proofs.write_first.Tie as tie
 
-slice-aggregate-write-all : tie.Need-slice-aggregate-write-all
-slice-aggregate-write-all c = sym (length-take-le _ _ (search needs))
+slice-aggregate-write : tie.Need-slice-aggregate-write
+slice-aggregate-write c = sym (length-take-le _ _ (search needs))
 
-write-all-requires : tie.Need-write-all-requires
-write-all-requires c κs = search needs
+write-requires : tie.Need-write-requires
+write-requires c κs = search needs
 
 returns : tie.Need-returns
 returns c = search needs
@@ -20,4 +20,4 @@ returns-2 c = search needs
 
 pub write-first-spec : {M : Type 1} → statement M
 write-first-spec =
-    tie.close (tie.spec slice-aggregate-write-all write-all-requires returns returns-2)
+    tie.close (tie.spec slice-aggregate-write write-requires returns returns-2)
