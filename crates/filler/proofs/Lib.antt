@@ -12,6 +12,7 @@ pub mod QueueRun
 pub mod RamRun
 pub mod StackRun
 pub mod SetRun
+pub mod Advised
 pub mod Progress
 pub mod FirstFault
 pub mod InitRows

@@ -18,7 +18,7 @@ use Rattle.memory.specs.Honest.{operationsFilled}
 use Rattle.memory.specs.Filler.{inputsIn, room}
 use Rattle.filler.specs.declared.steps.Cursor.{Cursor}
 use Rattle.index.specs.Values.{valuesIn}
-use Rattle.filler.specs.Steps.{Turned, turn, advanced, Ready}
+use Rattle.filler.specs.Steps.{Turned, turn, advanced, Ready, toldBy, ramTold, romTold, setTold}
 use Rattle.filler.specs.Ends.{ending, EndingFits}
 use Rattle.filler.specs.Write.{widthOf, Fillable, Prepared, Ended}
 use Rattle.filler.proofs.Onward.{Given, Onward, Clean}
@@ -94,7 +94,7 @@ module _ (m : Memory) (w t : ℕ) (inits ops out₀ : List ℕ) (given : Given w
       go Queue h r = queue-ready w t inits ops out₀ given h k at out s r more
 
   progress-turn : k < t → Progress m w t inits ops out₀ (k + 1) (advanced m k at ops) (sets out (7 * k) (turn m w k at inits ops s .words)) (turn m w k at inits ops s .scratch)
-  unfolding turn advanced
+  unfolding turn advanced toldBy ramTold romTold setTold
   progress-turn more = go m is run
     where
       go : (m : Memory) → Wide m w t inits → Progress m w t inits ops out₀ k at out s

@@ -21,12 +21,16 @@ use Rattle.memory.specs.Filler.{inputsIn, rowNumbers}
 use Rattle.filler.specs.declared.steps.Cursor.{Cursor}
 use Rattle.index.specs.Values.{valueAt, valuesIn}
 use Rattle.filler.specs.Words.{opAt, guardAt, addrAt, inputAt, copied}
-use Rattle.filler.specs.Steps.{Turn, made, enqueueTurn, enqueued, dequeueTurn, dequeued, queueTurn, queued, QueueReady}
+use Rattle.filler.specs.Steps.{Turn, made, turnOf, enqueueTold, enqueued, dequeueTold, dequeued, queueTold, queued, QueueReady}
 use Rattle.filler.specs.Ends.{cellEnds}
 use Rattle.filler.specs.Scan.{leveled}
 use Rattle.filler.proofs.Inputs.{inputs-count}
 use Rattle.filler.proofs.Forms.{is-coded, form-queue}
 use Rattle.filler.proofs.Onward.{Given, Onward, onward-start, onward-next, onward-as, Clean, CleanTurn, clean-turn, held-queue, copied-words}
+
+-- the turn of operation k
+abbrev pub queueTurn : ℕ → Cursor → List ℕ → List ℕ → Turn
+queueTurn k at ops s = turnOf ops k (queueTold at (opAt ops k) (guardAt ops k) (valueAt ops k) s)
 
 pub record QueueRun (w t : ℕ) (inits ops out₀ : List ℕ) (k : ℕ) (at : Cursor) (out s : List ℕ) : Type 0 where
   pub content : List ℕ
@@ -52,7 +56,7 @@ module _ (w t : ℕ) (inits ops out₀ : List ℕ) (given : Given w t ops out₀
   queue-some : (opAt ops k ≡ 6 → ⊥) → guardAt ops k ≡ 1 → 0 < length (run .content)
   queue-some = held-queue (valuesIn inits) (length (run .content)) (opAt ops k) (guardAt ops k) (addrAt ops k) (valueAt ops k) (queue-clean .here .possible)
 
-  pub queue-ready : QueueReady k at ops s
+  pub queue-ready : QueueReady at (opAt ops k) (guardAt ops k) s
   queue-ready =
       let h = run .held in
       let h′ = run .within in
@@ -85,10 +89,10 @@ module _ (w t : ℕ) (inits ops out₀ : List ℕ) (given : Given w t ops out₀
   }
 
   -- the run after the next operation, where it is known what that does
-  turned : (at′ : Cursor) (turn : Turn) → queued k at ops ≡ at′ → queueTurn k at ops s ≡ turn → QueueRun w t inits ops out₀ (k + 1) at′ (sets out (7 * k) (turn .words)) (turn .scratch)
-      → QueueRun w t inits ops out₀ (k + 1) (queued k at ops) (sets out (7 * k) (queueTurn k at ops s .words)) (queueTurn k at ops s .scratch)
+  turned : (at′ : Cursor) (turn : Turn) → queued at (opAt ops k) (guardAt ops k) ≡ at′ → queueTurn k at ops s ≡ turn → QueueRun w t inits ops out₀ (k + 1) at′ (sets out (7 * k) (turn .words)) (turn .scratch)
+      → QueueRun w t inits ops out₀ (k + 1) (queued at (opAt ops k) (guardAt ops k)) (sets out (7 * k) (queueTurn k at ops s .words)) (queueTurn k at ops s .scratch)
   turned at′ turn e f r =
-      subst (λ (x : Turn). QueueRun w t inits ops out₀ (k + 1) (queued k at ops) (sets out (7 * k) (x .words)) (x .scratch)) (sym f)
+      subst (λ (x : Turn). QueueRun w t inits ops out₀ (k + 1) (queued at (opAt ops k) (guardAt ops k)) (sets out (7 * k) (x .words)) (x .scratch)) (sym f)
       (subst (λ (x : Cursor). QueueRun w t inits ops out₀ (k + 1) x (sets out (7 * k) (turn .words)) (turn .scratch)) (sym e) r)
 
   entered : (j : ℕ) → j < length (run .content ++ valueAt ops k ∷ []) → getD (set s (at .tail) (valueAt ops k)) (at .head + j) 0 ≡ getD (run .content ++ valueAt ops k ∷ []) j 0
@@ -120,8 +124,8 @@ module _ (w t : ℕ) (inits ops out₀ : List ℕ) (given : Given w t ops out₀
           lt-of a b = omega arith
 
   queue-enqueue : eqb (opAt ops k) 6 ≡ true → (g : Bool) → eqb (guardAt ops k) 1 ≡ g
-      → QueueRun w t inits ops out₀ (k + 1) (queued k at ops) (sets out (7 * k) (queueTurn k at ops s .words)) (queueTurn k at ops s .scratch)
-  unfolding queued enqueued queueTurn enqueueTurn queueFrom isOp opCode inputAt leveled bare
+      → QueueRun w t inits ops out₀ (k + 1) (queued at (opAt ops k) (guardAt ops k)) (sets out (7 * k) (queueTurn k at ops s .words)) (queueTurn k at ops s .scratch)
+  unfolding queued enqueued queueTold enqueueTold queueFrom isOp opCode inputAt leveled bare
   queue-enqueue o true g =
       let content = run .content in
       let v = valueAt ops k in
@@ -151,8 +155,8 @@ module _ (w t : ℕ) (inits ops out₀ : List ℕ) (given : Given w t ops out₀
       refl)
 
   queue-dequeue : eqb (opAt ops k) 6 ≡ false → (g : Bool) → eqb (guardAt ops k) 1 ≡ g
-      → QueueRun w t inits ops out₀ (k + 1) (queued k at ops) (sets out (7 * k) (queueTurn k at ops s .words)) (queueTurn k at ops s .scratch)
-  unfolding queued dequeued queueTurn dequeueTurn queueFrom isOp opCode inputAt leveled
+      → QueueRun w t inits ops out₀ (k + 1) (queued at (opAt ops k) (guardAt ops k)) (sets out (7 * k) (queueTurn k at ops s .words)) (queueTurn k at ops s .scratch)
+  unfolding queued dequeued queueTold dequeueTold queueFrom isOp opCode inputAt leveled
   queue-dequeue o true g =
       let content = run .content in
       let held = run .held in
@@ -189,10 +193,10 @@ module _ (w t : ℕ) (inits ops out₀ : List ℕ) (given : Given w t ops out₀
       (run .times)
       refl)
 
-  pub queue-turn : QueueRun w t inits ops out₀ (k + 1) (queued k at ops) (sets out (7 * k) (queueTurn k at ops s .words)) (queueTurn k at ops s .scratch)
+  pub queue-turn : QueueRun w t inits ops out₀ (k + 1) (queued at (opAt ops k) (guardAt ops k)) (sets out (7 * k) (queueTurn k at ops s .words)) (queueTurn k at ops s .scratch)
   queue-turn = go (eqb (opAt ops k) 6) refl
     where
-      go : (b : Bool) → eqb (opAt ops k) 6 ≡ b → QueueRun w t inits ops out₀ (k + 1) (queued k at ops) (sets out (7 * k) (queueTurn k at ops s .words)) (queueTurn k at ops s .scratch)
+      go : (b : Bool) → eqb (opAt ops k) 6 ≡ b → QueueRun w t inits ops out₀ (k + 1) (queued at (opAt ops k) (guardAt ops k)) (sets out (7 * k) (queueTurn k at ops s .words)) (queueTurn k at ops s .scratch)
       go true o = queue-enqueue o (eqb (guardAt ops k) 1) refl
       go false o = queue-dequeue o (eqb (guardAt ops k) 1) refl
 

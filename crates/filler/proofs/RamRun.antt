@@ -18,13 +18,17 @@ use Rattle.memory.specs.Honest.{Cell, cell, cellAt, filledRow, endRow, rangeRow
 use Rattle.memory.specs.Filler.{inputsIn}
 use Rattle.index.specs.Values.{valueAt, valuesIn}
 use Rattle.filler.specs.Words.{opAt, guardAt, addrAt, inputAt}
-use Rattle.filler.specs.Steps.{counted, ramTurn, RamReady}
+use Rattle.filler.specs.Steps.{Turn, turnOf, counted, ramTold, RamReady}
 use Rattle.filler.specs.Ends.{cellEnds, ranges}
 use Rattle.filler.specs.Scan.{leveled}
 use Rattle.filler.proofs.Inputs.{inputs-count, values-count}
 use Rattle.filler.proofs.Forms.{form-ram}
 use Rattle.filler.proofs.Onward.{Given, Onward, onward-start, onward-next, onward-as, Clean, CleanTurn, clean-turn, inside-ram, copied-words}
 use Rattle.filler.proofs.Counts.{occurrences-few, counts-turn, ranges-are}
+
+-- the turn of operation k, of which only the clock matters
+abbrev pub ramTurn : ℕ → ℕ → ℕ → List ℕ → List ℕ → Turn
+ramTurn w k clock ops s = turnOf ops k (ramTold w (record { clock = clock; head = 0; tail = 0 }) (guardAt ops k) (addrAt ops k) (valueAt ops k) s)
 
 pub record RamRun (w t : ℕ) (inits ops out₀ : List ℕ) (k clock : ℕ) (out s : List ℕ) : Type 0 where
   pub cells : List Cell
@@ -73,7 +77,7 @@ module _ (w t : ℕ) (inits ops out₀ : List ℕ) (given : Given w t ops out₀
   version : getD s (2 * w + place) 0 ≡ occurrences (clock - time) (run .ages)
   version = run .counts place place-low ∙ ap (λ (a : ℕ). occurrences a (run .ages)) place-is
 
-  pub ram-ready : RamReady w k clock ops s
+  pub ram-ready : RamReady w clock (addrAt ops k) s
   unfolding addr time place
   ram-ready = record {
     within = inside;
@@ -196,7 +200,7 @@ module _ (w t : ℕ) (inits ops out₀ : List ℕ) (given : Given w t ops out₀
   op-low = omega (arith, form-ram (opAt ops k) (guardAt ops k) (addrAt ops k) (valueAt ops k) (ram-clean .here .formed))
 
   pub ram-turn : RamRun w t inits ops out₀ (k + 1) (clock + 1) (sets out (7 * k) (ramTurn w k clock ops s .words)) (ramTurn w k clock ops s .scratch)
-  unfolding ramTurn ramFrom leveled addr time place stored s₁ s₂ s₃ cells′
+  unfolding ramTold ramFrom leveled addr time place stored s₁ s₂ s₃ cells′
   ram-turn = record {
     cells = cells′;
     ages = (clock - time) ∷ run .ages;

@@ -13,13 +13,17 @@ use Rattle.memory.specs.Honest.{filledRow, endRow, occurrences, romFrom, romEnd
 use Rattle.memory.specs.Filler.{inputsIn, rowNumbers}
 use Rattle.index.specs.Values.{valueAt, valuesIn}
 use Rattle.filler.specs.Words.{opAt, guardAt, addrAt, inputAt}
-use Rattle.filler.specs.Steps.{romTurn, RomReady}
+use Rattle.filler.specs.Steps.{Turn, turnOf, romTold, RomReady}
 use Rattle.filler.specs.Ends.{valueEnds}
 use Rattle.filler.specs.Scan.{leveled}
 use Rattle.filler.proofs.Inputs.{inputs-count, values-at, values-count}
 use Rattle.filler.proofs.Forms.{form-rom}
 use Rattle.filler.proofs.Onward.{Given, Onward, onward-start, onward-next, onward-as, Clean, clean-turn, inside-rom, copied-words}
 use Rattle.filler.proofs.Counts.{occurrences-few, counts-turn}
+
+-- the turn of operation k
+abbrev pub romTurn : ℕ → ℕ → List ℕ → List ℕ → List ℕ → Turn
+romTurn w k inits ops s = turnOf ops k (romTold w (record { clock = 1; head = 0; tail = 0 }) (addrAt ops k) inits s)
 
 pub record RomRun (w t : ℕ) (inits ops out₀ : List ℕ) (k : ℕ) (out s : List ℕ) : Type 0 where
   pub keys : List ℕ
@@ -35,7 +39,7 @@ module _ (w t : ℕ) (inits ops out₀ : List ℕ) (given : Given w t ops out₀
       let turn = clean-turn Rom (valuesIn inits) w ops k (omega arith) (run .clean) in
       inside-rom (valuesIn inits) w (opAt ops k) (guardAt ops k) (addrAt ops k) (valueAt ops k) (turn .here .possible)
 
-  pub rom-ready : RomReady w k inits ops s
+  pub rom-ready : RomReady w (addrAt ops k) inits s
   rom-ready =
       let inside : addrAt ops k < w = rom-inside in
       record {
@@ -48,7 +52,7 @@ module _ (w t : ℕ) (inits ops out₀ : List ℕ) (given : Given w t ops out₀
       }
 
   pub rom-turn : RomRun w t inits ops out₀ (k + 1) (sets out (7 * k) (romTurn w k inits ops s .words)) (romTurn w k inits ops s .scratch)
-  unfolding romTurn romFrom leveled inputAt
+  unfolding romTold romFrom leveled inputAt
   rom-turn =
       let turn = clean-turn Rom (valuesIn inits) w ops k (omega arith) (run .clean) in
       let inside : addrAt ops k < w = rom-inside in

@@ -19,7 +19,7 @@ use Rattle.memory.specs.Honest.{filledRow, endRow, occurrences, setFrom, setEnd
 use Rattle.memory.specs.Filler.{inputsIn, rowNumbers}
 use Rattle.index.specs.Values.{valueAt, valuesIn, firstAt}
 use Rattle.filler.specs.Words.{opAt, guardAt, addrAt, inputAt, Treed}
-use Rattle.filler.specs.Steps.{counted, setTurn, SetReady}
+use Rattle.filler.specs.Steps.{Turn, turnOf, counted, setTold, SetReady}
 use Rattle.filler.specs.Ends.{valueEnds}
 use Rattle.filler.specs.Write.{Planted}
 use Rattle.filler.specs.Scan.{leveled}
@@ -32,6 +32,10 @@ use Rattle.filler.proofs.Counts.{occurrences-few, occurrences-same, occ
 -- the lookups that element j is given
 abbrev share : List ℕ → List ℕ → ℕ → ℕ
 share values keys j = cond (eqb (firstAt (getD values j 0) values) j) (occurrences (getD values j 0) keys) 0
+
+-- the turn of operation k
+abbrev pub setTurn : ℕ → ℕ → List ℕ → List ℕ → List ℕ → Turn
+setTurn w k inits ops s = turnOf ops k (setTold w (record { clock = 1; head = 0; tail = 0 }) (valueAt ops k) inits s)
 
 pub record SetRun (w t : ℕ) (inits ops out₀ : List ℕ) (k : ℕ) (out s : List ℕ) : Type 0 where
   pub keys : List ℕ
@@ -82,7 +86,7 @@ module _ (w t : ℕ) (inits ops out₀ : List ℕ) (given : Given w t ops out₀
       let c = many in
       run .counts key (omega arith) ∙ ap (λ (b : Bool). cond b (occurrences (getD values key 0) (run .keys)) 0) key-first ∙ ap (λ (y : ℕ). occurrences y (run .keys)) key-at
 
-  pub set-ready : SetReady w k inits ops s
+  pub set-ready : SetReady w (valueAt ops k) inits s
   unfolding key x values
   set-ready = record {
     treed = run .treed;
@@ -114,7 +118,7 @@ module _ (w t : ℕ) (inits ops out₀ : List ℕ) (given : Given w t ops out₀
       go (no n) = getD-set-other s (w + key) (w + j) (getD s (w + key) 0 + 1) 0 (λ e. n (omega arith)) ∙ run .counts j h ∙ other n (eqb (firstAt (getD values j 0) values) j) refl
 
   pub set-turn : SetRun w t inits ops out₀ (k + 1) (sets out (7 * k) (setTurn w k inits ops s .words)) (setTurn w k inits ops s .scratch)
-  unfolding setTurn setFrom leveled inputAt key x values
+  unfolding setTold setFrom leveled inputAt key x values
   set-turn = record {
     keys = x ∷ run .keys;
     looked = let l = run .looked in omega arith;

@@ -21,7 +21,7 @@ use Rattle.memory.specs.Filler.{inputsIn, rowNumbers}
 use Rattle.filler.specs.declared.steps.Cursor.{Cursor}
 use Rattle.index.specs.Values.{valueAt, valuesIn}
 use Rattle.filler.specs.Words.{opAt, guardAt, addrAt, inputAt, copied}
-use Rattle.filler.specs.Steps.{Turn, made, counted, Countable, popTime, pushTurn, pushed, popTurn, popped, stackTurn, stacked, StackReady}
+use Rattle.filler.specs.Steps.{Turn, made, turnOf, counted, Countable, popTime, pushTold, pushed, popTold, popped, stackTold, stacked, StackReady}
 use Rattle.filler.specs.Ends.{cellEnds, ranges}
 use Rattle.filler.specs.Scan.{leveled}
 use Rattle.filler.proofs.Inputs.{inputs-count}
@@ -54,6 +54,10 @@ stacked-kept w clock clock′ s s′ (x ∷ cells) c t h held = (
   },
   stacked-kept w clock clock′ s s′ cells (λ j l. c j (omega arith)) (λ j l. t j (omega arith)) h (held .1),
 )
+
+-- the turn of operation k
+abbrev pub stackTurn : ℕ → ℕ → Cursor → List ℕ → List ℕ → Turn
+stackTurn w k at ops s = turnOf ops k (stackTold w at (opAt ops k) (guardAt ops k) (valueAt ops k) s)
 
 pub record StackRun (w t : ℕ) (inits ops out₀ : List ℕ) (k : ℕ) (at : Cursor) (out s : List ℕ) : Type 0 where
   pub cells : List Cell
@@ -108,7 +112,7 @@ module _ (w t : ℕ) (inits ops out₀ : List ℕ) (given : Given w t ops out₀
       let e = run .early in
       omega (arith, l .time, l .started, l .past)
 
-  pub stack-ready : StackReady w k at ops s
+  pub stack-ready : StackReady w at (opAt ops k) (guardAt ops k) s
   stack-ready =
       let d = run .depth in
       let i = run .within in
@@ -163,10 +167,10 @@ module _ (w t : ℕ) (inits ops out₀ : List ℕ) (given : Given w t ops out₀
   }
 
   -- the run after the next operation, where it is known what that does
-  turned : (at′ : Cursor) (turn : Turn) → stacked k at ops ≡ at′ → stackTurn w k at ops s ≡ turn → StackRun w t inits ops out₀ (k + 1) at′ (sets out (7 * k) (turn .words)) (turn .scratch)
-      → StackRun w t inits ops out₀ (k + 1) (stacked k at ops) (sets out (7 * k) (stackTurn w k at ops s .words)) (stackTurn w k at ops s .scratch)
+  turned : (at′ : Cursor) (turn : Turn) → stacked at (opAt ops k) (guardAt ops k) ≡ at′ → stackTurn w k at ops s ≡ turn → StackRun w t inits ops out₀ (k + 1) at′ (sets out (7 * k) (turn .words)) (turn .scratch)
+      → StackRun w t inits ops out₀ (k + 1) (stacked at (opAt ops k) (guardAt ops k)) (sets out (7 * k) (stackTurn w k at ops s .words)) (stackTurn w k at ops s .scratch)
   turned at′ turn e f r =
-      subst (λ (x : Turn). StackRun w t inits ops out₀ (k + 1) (stacked k at ops) (sets out (7 * k) (x .words)) (x .scratch)) (sym f)
+      subst (λ (x : Turn). StackRun w t inits ops out₀ (k + 1) (stacked at (opAt ops k) (guardAt ops k)) (sets out (7 * k) (x .words)) (x .scratch)) (sym f)
       (subst (λ (x : Cursor). StackRun w t inits ops out₀ (k + 1) x (sets out (7 * k) (turn .words)) (turn .scratch)) (sym e) r)
 
   -- the words after an executed push
@@ -201,8 +205,8 @@ module _ (w t : ℕ) (inits ops out₀ : List ℕ) (given : Given w t ops out₀
       )
 
   stack-push : eqb (opAt ops k) 4 ≡ true → (g : Bool) → eqb (guardAt ops k) 1 ≡ g
-      → StackRun w t inits ops out₀ (k + 1) (stacked k at ops) (sets out (7 * k) (stackTurn w k at ops s .words)) (stackTurn w k at ops s .scratch)
-  unfolding stacked pushed stackTurn pushTurn stackFrom isOp opCode inputAt leveled bare s₁ s₂
+      → StackRun w t inits ops out₀ (k + 1) (stacked at (opAt ops k) (guardAt ops k)) (sets out (7 * k) (stackTurn w k at ops s .words)) (stackTurn w k at ops s .scratch)
+  unfolding stacked pushed stackTold pushTold stackFrom isOp opCode inputAt leveled bare s₁ s₂
   stack-push o true g =
       let d = run .depth in
       let i = run .within in
@@ -263,8 +267,8 @@ module _ (w t : ℕ) (inits ops out₀ : List ℕ) (given : Given w t ops out₀
           stacked-kept w (at .clock) (at .clock) s (counted s slot) cells (λ j l. looked-kept slot j h (omega arith)) (λ j l. looked-kept slot (w + j) h (omega arith)) (omega arith) (held .1)
 
   stack-pop : eqb (opAt ops k) 4 ≡ false → (g : Bool) → eqb (guardAt ops k) 1 ≡ g
-      → StackRun w t inits ops out₀ (k + 1) (stacked k at ops) (sets out (7 * k) (stackTurn w k at ops s .words)) (stackTurn w k at ops s .scratch)
-  unfolding stacked popped stackTurn popTurn stackFrom popRow honestTime isOp opCode inputAt leveled
+      → StackRun w t inits ops out₀ (k + 1) (stacked at (opAt ops k) (guardAt ops k)) (sets out (7 * k) (stackTurn w k at ops s .words)) (stackTurn w k at ops s .scratch)
+  unfolding stacked popped stackTold popTold stackFrom popRow honestTime isOp opCode inputAt leveled
   stack-pop o true g =
       let d = run .depth in
       let i = run .within in
@@ -315,10 +319,10 @@ module _ (w t : ℕ) (inits ops out₀ : List ℕ) (given : Given w t ops out₀
       (omega arith)
       (length-set s (2 * w) (getD s (2 * w) 0 + 1)))
 
-  pub stack-turn : StackRun w t inits ops out₀ (k + 1) (stacked k at ops) (sets out (7 * k) (stackTurn w k at ops s .words)) (stackTurn w k at ops s .scratch)
+  pub stack-turn : StackRun w t inits ops out₀ (k + 1) (stacked at (opAt ops k) (guardAt ops k)) (sets out (7 * k) (stackTurn w k at ops s .words)) (stackTurn w k at ops s .scratch)
   stack-turn = go (eqb (opAt ops k) 4) refl
     where
-      go : (b : Bool) → eqb (opAt ops k) 4 ≡ b → StackRun w t inits ops out₀ (k + 1) (stacked k at ops) (sets out (7 * k) (stackTurn w k at ops s .words)) (stackTurn w k at ops s .scratch)
+      go : (b : Bool) → eqb (opAt ops k) 4 ≡ b → StackRun w t inits ops out₀ (k + 1) (stacked at (opAt ops k) (guardAt ops k)) (sets out (7 * k) (stackTurn w k at ops s .words)) (stackTurn w k at ops s .scratch)
       go true o = stack-push o (eqb (guardAt ops k) 1) refl
       go false o = stack-pop o (eqb (guardAt ops k) 1) refl
 

@@ -12,6 +12,7 @@ use lib.Seq.{sets}
 use Rattle.memory.specs.declared.Memory.{Memory}
 use Rattle.memory.specs.declared.Memory.the-variants.{Ram, Rom, Set, Stack, Queue}
 use Rattle.filler.specs.declared.steps.Cursor.{Cursor}
+use Rattle.filler.specs.declared.steps.Advice.{Advice}
 use Rattle.memory.specs.Rows.{limit}
 use Rattle.index.specs.Values.{valueAt, valuesIn, firstAt}
 use Rattle.filler.specs.Words.{opAt, guardAt, addrAt, copied, Treed}
@@ -29,6 +30,22 @@ pub record Turned (k : ℕ) (t : Turn) (out out′ s′ : List ℕ) : Type 0 whe
   pub row : out′ ≡ sets out (7 * k) (t .words)
   pub kept : s′ ≡ t .scratch
 
+-- What an operation is told: its advice with the cursor after it, and the scratch words after it
+pub record Told : Type 0 where
+  pub advice : Advice
+  pub scratch : List ℕ
+
+abbrev pub told : ℕ → ℕ → ℕ → Cursor → List ℕ → Told
+told o t v next s = record { advice = record { old = o; time = t; version = v; next = next }; scratch = s }
+
+pub record Advised (t : Told) (r : Advice) (s′ : List ℕ) : Type 0 where
+  pub advice : r ≡ t .advice
+  pub kept : s′ ≡ t .scratch
+
+-- the turn of operation k, by what it is told
+abbrev pub turnOf : List ℕ → ℕ → Told → Turn
+turnOf ops k t = made (copied ops k (t .advice .old) (t .advice .time) (t .advice .version)) (t .scratch)
+
 -- a slot counts one more lookup
 abbrev pub counted : List ℕ → ℕ → List ℕ
 counted s slot = set s slot (getD s slot 0 + 1)
@@ -43,73 +60,69 @@ abbrev pub slotOf : ℕ → ℕ → ℕ → ℕ
 slotOf w clock time = 2 * w + (clock - time - 1)
 
 -- ram
-abbrev pub ramSlot : ℕ → ℕ → ℕ → List ℕ → List ℕ → ℕ
-ramSlot w k clock ops s = slotOf w clock (getD s (w + addrAt ops k) 0)
+abbrev pub ramSlot : ℕ → ℕ → ℕ → List ℕ → ℕ
+ramSlot w clock a s = slotOf w clock (getD s (w + a) 0)
 
-unfoldable pub ramTurn : ℕ → ℕ → ℕ → List ℕ → List ℕ → Turn
-ramTurn w k clock ops s =
-    made
-    (copied ops k (getD s (addrAt ops k) 0) (getD s (w + addrAt ops k) 0) (getD s (ramSlot w k clock ops s) 0))
-    (set
-    (set (counted s (ramSlot w k clock ops s)) (addrAt ops k)
-    (cond (eqb (guardAt ops k) 1) (valueAt ops k) (getD s (addrAt ops k) 0)))
-    (w + addrAt ops k)
-    clock)
+abbrev pub later : Cursor → Cursor
+later at = record { clock = at .clock + 1; head = at .head; tail = at .tail }
 
-pub record RamReady (w k clock : ℕ) (ops s : List ℕ) : Type 0 where
-  pub within : addrAt ops k < w
-  pub older : getD s (w + addrAt ops k) 0 < clock
-  pub countable : Countable s (ramSlot w k clock ops s)
+unfoldable pub ramTold : ℕ → Cursor → ℕ → ℕ → ℕ → List ℕ → Told
+ramTold w at g a v s =
+    told (getD s a 0) (getD s (w + a) 0) (getD s (ramSlot w (at .clock) a s) 0) (later at)
+    (set (set (counted s (ramSlot w (at .clock) a s)) a (cond (eqb g 1) v (getD s a 0))) (w + a) (at .clock))
+
+pub record RamReady (w clock a : ℕ) (s : List ℕ) : Type 0 where
+  pub within : a < w
+  pub older : getD s (w + a) 0 < clock
+  pub countable : Countable s (ramSlot w clock a s)
+
+-- an access has a clock that may rise
+pub record Timely (w : ℕ) (at : Cursor) (a : ℕ) (s : List ℕ) : Type 0 where
+  pub early : at .clock ≤ limit
+  pub ready : RamReady w (at .clock) a s
 
 -- rom
-unfoldable pub romTurn : ℕ → ℕ → List ℕ → List ℕ → List ℕ → Turn
-romTurn w k inits ops s =
-    made (copied ops k (valueAt inits (addrAt ops k)) 0 (getD s (w + addrAt ops k) 0)) (counted s (w + addrAt ops k))
+unfoldable pub romTold : ℕ → Cursor → ℕ → List ℕ → List ℕ → Told
+romTold w at a inits s = told (valueAt inits a) 0 (getD s (w + a) 0) at (counted s (w + a))
 
-pub record RomReady (w k : ℕ) (inits ops s : List ℕ) : Type 0 where
-  pub within : addrAt ops k < w
+pub record RomReady (w a : ℕ) (inits s : List ℕ) : Type 0 where
+  pub within : a < w
   pub held : 4 * w ≡ length inits
-  pub countable : Countable s (w + addrAt ops k)
+  pub countable : Countable s (w + a)
 
 -- set
-abbrev pub setKey : ℕ → List ℕ → List ℕ → ℕ
-setKey k inits ops = firstAt (valueAt ops k) (valuesIn inits)
+unfoldable pub setTold : ℕ → Cursor → ℕ → List ℕ → List ℕ → Told
+setTold w at v inits s =
+    told 0 0 (getD s (w + firstAt v (valuesIn inits)) 0) at (counted s (w + firstAt v (valuesIn inits)))
 
-unfoldable pub setTurn : ℕ → ℕ → List ℕ → List ℕ → List ℕ → Turn
-setTurn w k inits ops s = made (copied ops k 0 0 (getD s (w + setKey k inits ops) 0)) (counted s (w + setKey k inits ops))
-
-pub record SetReady (w k : ℕ) (inits ops s : List ℕ) : Type 0 where
+pub record SetReady (w v : ℕ) (inits s : List ℕ) : Type 0 where
   pub treed : Treed w inits (take w s)
-  pub countable : Countable s (w + setKey k inits ops)
+  pub countable : Countable s (w + firstAt v (valuesIn inits))
 
 -- stack
-unfoldable pub pushTurn : ℕ → ℕ → Cursor → List ℕ → List ℕ → Turn
-pushTurn w k at ops s =
-    made (copied ops k 0 0 0)
-    (cond (eqb (guardAt ops k) 1) (set (set s (at .tail) (valueAt ops k)) (w + at .tail) (at .clock)) s)
+unfoldable pub pushed : Cursor → ℕ → Cursor
+pushed at g = cond (eqb g 1) (record { clock = at .clock + 1; head = at .head; tail = at .tail + 1 }) at
 
-unfoldable pub pushed : ℕ → Cursor → List ℕ → Cursor
-pushed k at ops =
-    cond (eqb (guardAt ops k) 1) (record { clock = at .clock + 1; head = at .head; tail = at .tail + 1 }) at
+unfoldable pub pushTold : ℕ → Cursor → ℕ → ℕ → List ℕ → Told
+pushTold w at g v s = told 0 0 0 (pushed at g) (cond (eqb g 1) (set (set s (at .tail) v) (w + at .tail) (at .clock)) s)
 
-pub record PushReady (w k : ℕ) (at : Cursor) (ops s : List ℕ) : Type 0 where
-  pub free : guardAt ops k ≡ 1 → at .tail < w
+pub record PushReady (w : ℕ) (at : Cursor) (g : ℕ) (s : List ℕ) : Type 0 where
+  pub free : g ≡ 1 → at .tail < w
   pub room : 2 * w ≤ length s
   pub early : at .clock ≤ limit
 
 abbrev pub popTime : ℕ → Cursor → List ℕ → ℕ
 popTime w at s = getD s (w + (at .tail - 1)) 0
 
-unfoldable pub popTurn : ℕ → ℕ → Cursor → List ℕ → List ℕ → Turn
-popTurn w k at ops s =
-    cond (eqb (guardAt ops k) 1)
-    (made
-    (copied ops k (getD s (at .tail - 1) 0) (popTime w at s) (getD s (slotOf w (at .clock) (popTime w at s)) 0))
-    (counted s (slotOf w (at .clock) (popTime w at s))))
-    (made (copied ops k 0 (at .clock - 1) (getD s (2 * w) 0)) (counted s (2 * w)))
+unfoldable pub popped : Cursor → ℕ → Cursor
+popped at g = cond (eqb g 1) (record { clock = at .clock; head = at .head; tail = at .tail - 1 }) at
 
-unfoldable pub popped : ℕ → Cursor → List ℕ → Cursor
-popped k at ops = cond (eqb (guardAt ops k) 1) (record { clock = at .clock; head = at .head; tail = at .tail - 1 }) at
+unfoldable pub popTold : ℕ → Cursor → ℕ → List ℕ → Told
+popTold w at g s =
+    cond (eqb g 1)
+    (told (getD s (at .tail - 1) 0) (popTime w at s) (getD s (slotOf w (at .clock) (popTime w at s)) 0) (popped at g)
+    (counted s (slotOf w (at .clock) (popTime w at s))))
+    (told 0 (at .clock - 1) (getD s (2 * w) 0) (popped at g) (counted s (2 * w)))
 
 -- an executed pop has a cell to take
 pub record Taken (w : ℕ) (at : Cursor) (s : List ℕ) : Type 0 where
@@ -118,73 +131,76 @@ pub record Taken (w : ℕ) (at : Cursor) (s : List ℕ) : Type 0 where
   pub older : popTime w at s < at .clock
   pub countable : Countable s (slotOf w (at .clock) (popTime w at s))
 
-pub record PopReady (w k : ℕ) (at : Cursor) (ops s : List ℕ) : Type 0 where
+pub record PopReady (w : ℕ) (at : Cursor) (g : ℕ) (s : List ℕ) : Type 0 where
   pub started : 1 ≤ at .clock
   pub first : Countable s (2 * w)
-  pub taken : guardAt ops k ≡ 1 → Taken w at s
+  pub taken : g ≡ 1 → Taken w at s
 
-unfoldable pub stackTurn : ℕ → ℕ → Cursor → List ℕ → List ℕ → Turn
-stackTurn w k at ops s = cond (eqb (opAt ops k) 4) (pushTurn w k at ops s) (popTurn w k at ops s)
+unfoldable pub stackTold : ℕ → Cursor → ℕ → ℕ → ℕ → List ℕ → Told
+stackTold w at o g v s = cond (eqb o 4) (pushTold w at g v s) (popTold w at g s)
 
-unfoldable pub stacked : ℕ → Cursor → List ℕ → Cursor
-stacked k at ops = cond (eqb (opAt ops k) 4) (pushed k at ops) (popped k at ops)
+unfoldable pub stacked : Cursor → ℕ → ℕ → Cursor
+stacked at o g = cond (eqb o 4) (pushed at g) (popped at g)
 
-pub record StackReady (w k : ℕ) (at : Cursor) (ops s : List ℕ) : Type 0 where
-  pub push : opAt ops k ≡ 4 → PushReady w k at ops s
-  pub pop : (opAt ops k ≡ 4 → ⊥) → PopReady w k at ops s
+pub record StackReady (w : ℕ) (at : Cursor) (o g : ℕ) (s : List ℕ) : Type 0 where
+  pub push : o ≡ 4 → PushReady w at g s
+  pub pop : (o ≡ 4 → ⊥) → PopReady w at g s
 
 -- queue
-unfoldable pub enqueueTurn : ℕ → Cursor → List ℕ → List ℕ → Turn
-enqueueTurn k at ops s = made (copied ops k 0 0 0) (cond (eqb (guardAt ops k) 1) (set s (at .tail) (valueAt ops k)) s)
+unfoldable pub enqueued : Cursor → ℕ → Cursor
+enqueued at g = cond (eqb g 1) (record { clock = at .clock; head = at .head; tail = at .tail + 1 }) at
 
-unfoldable pub enqueued : ℕ → Cursor → List ℕ → Cursor
-enqueued k at ops = cond (eqb (guardAt ops k) 1) (record { clock = at .clock; head = at .head; tail = at .tail + 1 }) at
+unfoldable pub enqueueTold : Cursor → ℕ → ℕ → List ℕ → Told
+enqueueTold at g v s = told 0 0 0 (enqueued at g) (cond (eqb g 1) (set s (at .tail) v) s)
 
-pub record EnqueueReady (k : ℕ) (at : Cursor) (ops s : List ℕ) : Type 0 where
-  pub free : guardAt ops k ≡ 1 → at .tail < length s
+pub record EnqueueReady (at : Cursor) (g : ℕ) (s : List ℕ) : Type 0 where
+  pub free : g ≡ 1 → at .tail < length s
 
-unfoldable pub dequeueTurn : ℕ → Cursor → List ℕ → List ℕ → Turn
-dequeueTurn k at ops s = made (copied ops k (cond (eqb (guardAt ops k) 1) (getD s (at .head) 0) 0) 0 0) s
+unfoldable pub dequeued : Cursor → ℕ → Cursor
+dequeued at g = cond (eqb g 1) (record { clock = at .clock; head = at .head + 1; tail = at .tail }) at
 
-unfoldable pub dequeued : ℕ → Cursor → List ℕ → Cursor
-dequeued k at ops = cond (eqb (guardAt ops k) 1) (record { clock = at .clock; head = at .head + 1; tail = at .tail }) at
+unfoldable pub dequeueTold : Cursor → ℕ → List ℕ → Told
+dequeueTold at g s = told (cond (eqb g 1) (getD s (at .head) 0) 0) 0 0 (dequeued at g) s
 
-pub record DequeueReady (k : ℕ) (at : Cursor) (ops s : List ℕ) : Type 0 where
-  pub held : guardAt ops k ≡ 1 → at .head < length s
+pub record DequeueReady (at : Cursor) (g : ℕ) (s : List ℕ) : Type 0 where
+  pub held : g ≡ 1 → at .head < length s
 
-unfoldable pub queueTurn : ℕ → Cursor → List ℕ → List ℕ → Turn
-queueTurn k at ops s = cond (eqb (opAt ops k) 6) (enqueueTurn k at ops s) (dequeueTurn k at ops s)
+unfoldable pub queueTold : Cursor → ℕ → ℕ → ℕ → List ℕ → Told
+queueTold at o g v s = cond (eqb o 6) (enqueueTold at g v s) (dequeueTold at g s)
 
-unfoldable pub queued : ℕ → Cursor → List ℕ → Cursor
-queued k at ops = cond (eqb (opAt ops k) 6) (enqueued k at ops) (dequeued k at ops)
+unfoldable pub queued : Cursor → ℕ → ℕ → Cursor
+queued at o g = cond (eqb o 6) (enqueued at g) (dequeued at g)
 
-pub record QueueReady (k : ℕ) (at : Cursor) (ops s : List ℕ) : Type 0 where
-  pub enqueue : opAt ops k ≡ 6 → EnqueueReady k at ops s
-  pub dequeue : (opAt ops k ≡ 6 → ⊥) → DequeueReady k at ops s
+pub record QueueReady (at : Cursor) (o g : ℕ) (s : List ℕ) : Type 0 where
+  pub enqueue : o ≡ 6 → EnqueueReady at g s
+  pub dequeue : (o ≡ 6 → ⊥) → DequeueReady at g s
 
--- any memory
+-- any memory, by the words of the operation
+unfoldable pub toldBy : Memory → ℕ → Cursor → ℕ → ℕ → ℕ → ℕ → List ℕ → List ℕ → Told
+toldBy Ram w at o g a v inits s = ramTold w at g a v s
+toldBy Rom w at o g a v inits s = romTold w at a inits s
+toldBy Set w at o g a v inits s = setTold w at v inits s
+toldBy Stack w at o g a v inits s = stackTold w at o g v s
+toldBy Queue w at o g a v inits s = queueTold at o g v s
+
+abbrev pub ReadyBy : Memory → ℕ → Cursor → ℕ → ℕ → ℕ → ℕ → List ℕ → List ℕ → Type 0
+ReadyBy Ram w at o g a v inits s = Timely w at a s
+ReadyBy Rom w at o g a v inits s = RomReady w a inits s
+ReadyBy Set w at o g a v inits s = SetReady w v inits s
+ReadyBy Stack w at o g a v inits s = StackReady w at o g s
+ReadyBy Queue w at o g a v inits s = QueueReady at o g s
+
+-- operation k of any memory
 unfoldable pub turn : Memory → ℕ → ℕ → Cursor → List ℕ → List ℕ → List ℕ → Turn
-turn Ram w k at inits ops s = ramTurn w k (at .clock) ops s
-turn Rom w k at inits ops s = romTurn w k inits ops s
-turn Set w k at inits ops s = setTurn w k inits ops s
-turn Stack w k at inits ops s = stackTurn w k at ops s
-turn Queue w k at inits ops s = queueTurn k at ops s
+turn m w k at inits ops s =
+    turnOf ops k (toldBy m w at (opAt ops k) (guardAt ops k) (addrAt ops k) (valueAt ops k) inits s)
 
 unfoldable pub advanced : Memory → ℕ → Cursor → List ℕ → Cursor
-advanced Ram k at ops = record { clock = at .clock + 1; head = at .head; tail = at .tail }
+advanced Ram k at ops = later at
 advanced Rom k at ops = at
 advanced Set k at ops = at
-advanced Stack k at ops = stacked k at ops
-advanced Queue k at ops = queued k at ops
-
--- an access has a clock that may rise
-pub record Timely (w k : ℕ) (at : Cursor) (ops s : List ℕ) : Type 0 where
-  pub early : at .clock ≤ limit
-  pub ready : RamReady w k (at .clock) ops s
+advanced Stack k at ops = stacked at (opAt ops k) (guardAt ops k)
+advanced Queue k at ops = queued at (opAt ops k) (guardAt ops k)
 
 abbrev pub Ready : Memory → ℕ → ℕ → Cursor → List ℕ → List ℕ → List ℕ → Type 0
-Ready Ram w k at inits ops s = Timely w k at ops s
-Ready Rom w k at inits ops s = RomReady w k inits ops s
-Ready Set w k at inits ops s = SetReady w k inits ops s
-Ready Stack w k at inits ops s = StackReady w k at ops s
-Ready Queue w k at inits ops s = QueueReady k at ops s
+Ready m w k at inits ops s = ReadyBy m w at (opAt ops k) (guardAt ops k) (addrAt ops k) (valueAt ops k) inits s

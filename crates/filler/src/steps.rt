@@ -1,4 +1,4 @@
-// One operation of each memory: its row is written, and the scratch words come to hold the memory after it.
+// One operation of each memory: its advice is found and its row written, and the scratch words come to hold the memory after it.
 //
 // Of w cells the contents lie in the scratch words from 0 on, the times from w on, and the lookups of each age from 2w on, of age 1 first. A rom and
 // a set keep no cells: the lookups of each key lie from w on. A set keeps its search tree in the first w words.
@@ -11,13 +11,21 @@ ghost use lib.Dec.{eqb};
 ghost use lib.ListN.{length, getD, set};
 ghost use Rattle.filler.specs.Words.{RowFits};
 ghost use Rattle.memory.specs.Rows.{limit};
-ghost use Rattle.filler.specs.Steps.{Turned, ramTurn, RamReady, romTurn, RomReady, setTurn, SetReady, pushTurn, pushed, PushReady, popTurn, popped, PopReady, stackTurn, stacked, StackReady, enqueueTurn, enqueued, EnqueueReady, dequeueTurn, dequeued, DequeueReady, queueTurn, queued, QueueReady, turn, advanced, Ready};
+ghost use Rattle.filler.specs.Steps.{Turned, Advised, ramTold, Timely, romTold, RomReady, setTold, SetReady, pushTold, PushReady, popTold, PopReady, enqueueTold, EnqueueReady, dequeueTold, DequeueReady, toldBy, ReadyBy, turn, advanced, Ready};
 
 // The clock, and where the cells begin and end that a stack or a queue holds.
 pub struct Cursor {
     pub clock: u32,
     pub head: usize,
     pub tail: usize,
+}
+
+// The advice of an operation, and the cursor after it.
+pub struct Advice {
+    pub old: u32,
+    pub time: u32,
+    pub version: u32,
+    pub next: Cursor,
 }
 
 const PUSH: u32 = 4;
@@ -43,162 +51,208 @@ fn chosen(guard: u32, value: u32, old: u32) -> u32
 }
 
 // An access at a clock.
-fn ram(w: usize, k: usize, clock: u32, ops: &[u32], out: &mut [u32], scratch: &mut [u32])
-    requires { ⌜ RowFits k (now ops) (now out) ⌝ }
-    requires { ⌜ RamReady w k clock (now ops) (now scratch) ⌝ }
-    ensures { λ _. ⌜ Turned k (ramTurn w k clock (now (ops .entry)) (now (scratch .entry))) (now (out .entry)) (now (out .exit)) (now (scratch .exit)) ⌝ }
+fn ram(w: usize, at: Cursor, guard: u32, addr: u32, value: u32, scratch: &mut [u32]) -> Advice
+    requires { ⌜ Timely w at addr (now scratch) ⌝ }
+    ensures { λ r. ⌜ Advised (ramTold w at guard addr value (now (scratch .entry))) r (now (scratch .exit)) ⌝ }
 {
-    let from = 4 * k;
-    let guard = ops[from + 1];
-    let addr = ops[from + 2] as usize;
-    let value = ops[from + 3];
-    let old = scratch[addr];
-    let time = scratch[w + addr];
+    let clock = at.clock;
+    let cell = addr as usize;
+    let old = scratch[cell];
+    let time = scratch[w + cell];
     let version = looked(2 * w + (clock - time - 1) as usize, scratch);
-    rows::copy(k, ops, old, time, version, out);
-    scratch[addr] = chosen(guard, value, old);
-    scratch[w + addr] = clock;
+    scratch[cell] = chosen(guard, value, old);
+    scratch[w + cell] = clock;
+    let next = Cursor {
+        clock: clock + 1,
+        head: at.head,
+        tail: at.tail,
+    };
+    Advice {
+        old,
+        time,
+        version,
+        next,
+    }
 }
 
 // A look.
-fn rom(w: usize, k: usize, inits: &[u32], ops: &[u32], out: &mut [u32], scratch: &mut [u32])
-    requires { ⌜ RowFits k (now ops) (now out) ⌝ }
-    requires { ⌜ RomReady w k (now inits) (now ops) (now scratch) ⌝ }
-    ensures { λ _. ⌜ Turned k (romTurn w k (now (inits .entry)) (now (ops .entry)) (now (scratch .entry))) (now (out .entry)) (now (out .exit)) (now (scratch .exit)) ⌝ }
+fn rom(w: usize, at: Cursor, addr: u32, inits: &[u32], scratch: &mut [u32]) -> Advice
+    requires { ⌜ RomReady w addr (now inits) (now scratch) ⌝ }
+    ensures { λ r. ⌜ Advised (romTold w at addr (now (inits .entry)) (now (scratch .entry))) r (now (scratch .exit)) ⌝ }
 {
-    let addr = ops[4 * k + 2] as usize;
-    let version = looked(w + addr, scratch);
-    rows::copy(k, ops, inits[4 * addr + 3], 0, version, out);
+    let cell = addr as usize;
+    let version = looked(w + cell, scratch);
+    Advice {
+        old: inits[4 * cell + 3],
+        time: 0,
+        version,
+        next: at,
+    }
 }
 
 // A member: "equal set elements give all lookups to the first".
-fn member(w: usize, k: usize, inits: &[u32], ops: &[u32], out: &mut [u32], scratch: &mut [u32])
-    requires { ⌜ RowFits k (now ops) (now out) ⌝ }
-    requires { ⌜ SetReady w k (now inits) (now ops) (now scratch) ⌝ }
-    ensures { λ _. ⌜ Turned k (setTurn w k (now (inits .entry)) (now (ops .entry)) (now (scratch .entry))) (now (out .entry)) (now (out .exit)) (now (scratch .exit)) ⌝ }
+fn member(w: usize, at: Cursor, value: u32, inits: &[u32], scratch: &mut [u32]) -> Advice
+    requires { ⌜ SetReady w value (now inits) (now scratch) ⌝ }
+    ensures { λ r. ⌜ Advised (setTold w at value (now (inits .entry)) (now (scratch .entry))) r (now (scratch .exit)) ⌝ }
 {
-    let key = index::find(inits, &scratch[..w], ops[4 * k + 3]);
+    let key = index::find(inits, &scratch[..w], value);
     let version = looked(w + key, scratch);
-    rows::copy(k, ops, 0, 0, version, out);
+    Advice {
+        old: 0,
+        time: 0,
+        version,
+        next: at,
+    }
 }
 
 // A push, executed or skipped.
-fn push(w: usize, k: usize, at: Cursor, ops: &[u32], out: &mut [u32], scratch: &mut [u32]) -> Cursor
-    requires { ⌜ RowFits k (now ops) (now out) ⌝ }
-    requires { ⌜ PushReady w k at (now ops) (now scratch) ⌝ }
-    ensures turned { λ _. ⌜ Turned k (pushTurn w k at (now (ops .entry)) (now (scratch .entry))) (now (out .entry)) (now (out .exit)) (now (scratch .exit)) ⌝ }
-    ensures next { λ r. ⌜ r ≡ pushed k at (now (ops .entry)) ⌝ }
+fn push(w: usize, at: Cursor, guard: u32, value: u32, scratch: &mut [u32]) -> Advice
+    requires { ⌜ PushReady w at guard (now scratch) ⌝ }
+    ensures { λ r. ⌜ Advised (pushTold w at guard value (now (scratch .entry))) r (now (scratch .exit)) ⌝ }
 {
-    rows::copy(k, ops, 0, 0, 0, out);
-    if ops[4 * k + 1] != 1 {
-        return at;
+    if guard != 1 {
+        return Advice {
+            old: 0,
+            time: 0,
+            version: 0,
+            next: at,
+        };
     }
     let clock = at.clock;
     let tail = at.tail;
-    scratch[tail] = ops[4 * k + 3];
+    scratch[tail] = value;
     scratch[w + tail] = clock;
-    Cursor {
+    let next = Cursor {
         clock: clock + 1,
         head: at.head,
         tail: tail + 1,
+    };
+    Advice {
+        old: 0,
+        time: 0,
+        version: 0,
+        next,
     }
 }
 
 // A pop, executed or skipped: "A skipped pop gets old 0 and time clock − 1", and so looks up age 1.
-fn pop(w: usize, k: usize, at: Cursor, ops: &[u32], out: &mut [u32], scratch: &mut [u32]) -> Cursor
-    requires { ⌜ RowFits k (now ops) (now out) ⌝ }
-    requires { ⌜ PopReady w k at (now ops) (now scratch) ⌝ }
-    ensures turned { λ _. ⌜ Turned k (popTurn w k at (now (ops .entry)) (now (scratch .entry))) (now (out .entry)) (now (out .exit)) (now (scratch .exit)) ⌝ }
-    ensures next { λ r. ⌜ r ≡ popped k at (now (ops .entry)) ⌝ }
+fn pop(w: usize, at: Cursor, guard: u32, scratch: &mut [u32]) -> Advice
+    requires { ⌜ PopReady w at guard (now scratch) ⌝ }
+    ensures { λ r. ⌜ Advised (popTold w at guard (now (scratch .entry))) r (now (scratch .exit)) ⌝ }
 {
     let clock = at.clock;
-    if ops[4 * k + 1] != 1 {
+    if guard != 1 {
         let version = looked(2 * w, scratch);
-        rows::copy(k, ops, 0, clock - 1, version, out);
-        return at;
+        return Advice {
+            old: 0,
+            time: clock - 1,
+            version,
+            next: at,
+        };
     }
     let top = at.tail - 1;
     let old = scratch[top];
     let time = scratch[w + top];
     let version = looked(2 * w + (clock - time - 1) as usize, scratch);
-    rows::copy(k, ops, old, time, version, out);
-    Cursor {
+    let next = Cursor {
         clock,
         head: at.head,
         tail: top,
-    }
-}
-
-fn stack(
-    w: usize,
-    k: usize,
-    at: Cursor,
-    ops: &[u32],
-    out: &mut [u32],
-    scratch: &mut [u32],
-) -> Cursor
-    requires { ⌜ RowFits k (now ops) (now out) ⌝ }
-    requires { ⌜ StackReady w k at (now ops) (now scratch) ⌝ }
-    ensures turned { λ _. ⌜ Turned k (stackTurn w k at (now (ops .entry)) (now (scratch .entry))) (now (out .entry)) (now (out .exit)) (now (scratch .exit)) ⌝ }
-    ensures next { λ r. ⌜ r ≡ stacked k at (now (ops .entry)) ⌝ }
-{
-    if ops[4 * k] == PUSH {
-        push(w, k, at, ops, out, scratch)
-    } else {
-        pop(w, k, at, ops, out, scratch)
+    };
+    Advice {
+        old,
+        time,
+        version,
+        next,
     }
 }
 
 // An enqueue, executed or skipped.
-fn enqueue(k: usize, at: Cursor, ops: &[u32], out: &mut [u32], scratch: &mut [u32]) -> Cursor
-    requires { ⌜ RowFits k (now ops) (now out) ⌝ }
-    requires { ⌜ EnqueueReady k at (now ops) (now scratch) ⌝ }
-    ensures turned { λ _. ⌜ Turned k (enqueueTurn k at (now (ops .entry)) (now (scratch .entry))) (now (out .entry)) (now (out .exit)) (now (scratch .exit)) ⌝ }
-    ensures next { λ r. ⌜ r ≡ enqueued k at (now (ops .entry)) ⌝ }
+fn enqueue(at: Cursor, guard: u32, value: u32, scratch: &mut [u32]) -> Advice
+    requires { ⌜ EnqueueReady at guard (now scratch) ⌝ }
+    ensures { λ r. ⌜ Advised (enqueueTold at guard value (now (scratch .entry))) r (now (scratch .exit)) ⌝ }
 {
-    rows::copy(k, ops, 0, 0, 0, out);
-    if ops[4 * k + 1] != 1 {
-        return at;
+    if guard != 1 {
+        return Advice {
+            old: 0,
+            time: 0,
+            version: 0,
+            next: at,
+        };
     }
     let tail = at.tail;
-    scratch[tail] = ops[4 * k + 3];
-    Cursor {
+    scratch[tail] = value;
+    let next = Cursor {
         clock: at.clock,
         head: at.head,
         tail: tail + 1,
+    };
+    Advice {
+        old: 0,
+        time: 0,
+        version: 0,
+        next,
     }
 }
 
 // A dequeue, executed or skipped: "a skipped dequeue old 0".
-fn dequeue(k: usize, at: Cursor, ops: &[u32], out: &mut [u32], scratch: &[u32]) -> Cursor
-    requires { ⌜ RowFits k (now ops) (now out) ⌝ }
-    requires { ⌜ DequeueReady k at (now ops) (now scratch) ⌝ }
-    ensures turned { λ _. ⌜ Turned k (dequeueTurn k at (now (ops .entry)) (now (scratch .entry))) (now (out .entry)) (now (out .exit)) (now (scratch .entry)) ⌝ }
-    ensures next { λ r. ⌜ r ≡ dequeued k at (now (ops .entry)) ⌝ }
+fn dequeue(at: Cursor, guard: u32, scratch: &[u32]) -> Advice
+    requires { ⌜ DequeueReady at guard (now scratch) ⌝ }
+    ensures { λ r. ⌜ Advised (dequeueTold at guard (now (scratch .entry))) r (now (scratch .entry)) ⌝ }
 {
-    if ops[4 * k + 1] != 1 {
-        rows::copy(k, ops, 0, 0, 0, out);
-        return at;
+    if guard != 1 {
+        return Advice {
+            old: 0,
+            time: 0,
+            version: 0,
+            next: at,
+        };
     }
     let head = at.head;
-    rows::copy(k, ops, scratch[head], 0, 0, out);
-    Cursor {
+    let next = Cursor {
         clock: at.clock,
         head: head + 1,
         tail: at.tail,
+    };
+    Advice {
+        old: scratch[head],
+        time: 0,
+        version: 0,
+        next,
     }
 }
 
-fn queue(k: usize, at: Cursor, ops: &[u32], out: &mut [u32], scratch: &mut [u32]) -> Cursor
-    requires { ⌜ RowFits k (now ops) (now out) ⌝ }
-    requires { ⌜ QueueReady k at (now ops) (now scratch) ⌝ }
-    ensures turned { λ _. ⌜ Turned k (queueTurn k at (now (ops .entry)) (now (scratch .entry))) (now (out .entry)) (now (out .exit)) (now (scratch .exit)) ⌝ }
-    ensures next { λ r. ⌜ r ≡ queued k at (now (ops .entry)) ⌝ }
+// The advice of an operation of a memory of w cells.
+fn advise(
+    m: Memory,
+    w: usize,
+    at: Cursor,
+    op: u32,
+    guard: u32,
+    addr: u32,
+    value: u32,
+    inits: &[u32],
+    scratch: &mut [u32],
+) -> Advice
+    requires { ⌜ ReadyBy m w at op guard addr value (now inits) (now scratch) ⌝ }
+    ensures { λ r. ⌜ Advised (toldBy m w at op guard addr value (now (inits .entry)) (now (scratch .entry))) r (now (scratch .exit)) ⌝ }
 {
-    if ops[4 * k] == ENQUEUE {
-        enqueue(k, at, ops, out, scratch)
-    } else {
-        dequeue(k, at, ops, out, scratch)
+    match m {
+        Memory::Ram => ram(w, at, guard, addr, value, scratch),
+        Memory::Rom => rom(w, at, addr, inits, scratch),
+        Memory::Set => member(w, at, value, inits, scratch),
+        Memory::Stack => {
+            if op == PUSH {
+                return push(w, at, guard, value, scratch);
+            }
+            pop(w, at, guard, scratch)
+        }
+        Memory::Queue => {
+            if op == ENQUEUE {
+                return enqueue(at, guard, value, scratch);
+            }
+            dequeue(at, guard, scratch)
+        }
     }
 }
 
@@ -218,25 +272,13 @@ pub fn step(
     ensures turned { λ _. ⌜ Turned k (turn m w k at (now (inits .entry)) (now (ops .entry)) (now (scratch .entry))) (now (out .entry)) (now (out .exit)) (now (scratch .exit)) ⌝ }
     ensures next { λ r. ⌜ r ≡ advanced m k at (now (ops .entry)) ⌝ }
 {
-    match m {
-        Memory::Ram => {
-            let clock = at.clock;
-            ram(w, k, clock, ops, out, scratch);
-            Cursor {
-                clock: clock + 1,
-                head: at.head,
-                tail: at.tail,
-            }
-        }
-        Memory::Rom => {
-            rom(w, k, inits, ops, out, scratch);
-            at
-        }
-        Memory::Set => {
-            member(w, k, inits, ops, out, scratch);
-            at
-        }
-        Memory::Stack => stack(w, k, at, ops, out, scratch),
-        Memory::Queue => queue(k, at, ops, out, scratch),
-    }
+    let from = 4 * k;
+    let op = ops[from];
+    let guard = ops[from + 1];
+    let addr = ops[from + 2];
+    let value = ops[from + 3];
+    let advice = advise(m, w, at, op, guard, addr, value, inits, scratch);
+    rows::copy(k, ops, advice.old, advice.time, advice.version, out);
+    let next = advice.next;
+    next
 }

@@ -2,82 +2,31 @@
 -- Assumes nothing.
 use native.Mathlib.Omega.{arith}
 use borrow.Author.Tests.{eq-eqb, ne-eqb}
-use Rattle.filler.specs.Steps.{enqueueTurn, enqueued}
+use Rattle.filler.specs.Steps.{enqueueTold, enqueued}
 use borrow.Author.Needs.{needs}
 use Rattle.filler.proofs.steps.enqueue.Statement.{statement}
 use Rattle.filler.proofs.steps.enqueue.Tie as tie
 
-copy-requires : tie.Need-copy-requires
-copy-requires c κs = search needs
+returns : tie.Need-returns
+unfolding enqueueTold enqueued
+returns c = record { advice = simp (ne-eqb _ _ (c .if1 .taken)); kept = simp (ne-eqb _ _ (c .if1 .taken)) }
 
-mul-if1 : tie.Need-mul-if1
-mul-if1 c = search needs
+mul-scratch : tie.Need-mul-scratch
+mul-scratch c = let free = c .before .pre .free (c .if1 .left) in omega arith
 
-add-if1 : tie.Need-add-if1
-add-if1 c = search needs
+slice-write-scratch : tie.Need-slice-write-scratch
+slice-write-scratch c = let free = c .before .pre .free (c .if1 .left) in omega arith
 
-mul-if1-2 : tie.Need-mul-if1-2
-mul-if1-2 c = search needs
-
-shared-slice-read-if1 : tie.Need-shared-slice-read-if1
-shared-slice-read-if1 c = search needs
+add-t8 : tie.Need-add-t8
+add-t8 c = let free = c .before .pre .free (c .if1 .left) in omega arith
 
 same-length : tie.Need-same-length
 same-length c = search needs
 
-returns : tie.Need-returns
-unfolding enqueueTurn enqueued
-returns c = (record { row = c .before .before .before .before .copy .ensures; kept = simp (ne-eqb _ _ (c .if1 .taken)) }, simp (ne-eqb _ _ (c .if1 .taken)))
-
-mul-scratch : tie.Need-mul-scratch
-mul-scratch c = search needs
-
-add-scratch : tie.Need-add-scratch
-add-scratch c = search needs
-
-mul-scratch-2 : tie.Need-mul-scratch-2
-mul-scratch-2 c = search needs
-
-shared-slice-read-scratch : tie.Need-shared-slice-read-scratch
-shared-slice-read-scratch c = search needs
-
-mul-scratch-3 : tie.Need-mul-scratch-3
-mul-scratch-3 c = let inside = c .before .before .before .before .before .before .before .before .before .before .pre .1 .free (c .before .if1 .left) in omega arith
-
-slice-write-scratch : tie.Need-slice-write-scratch
-slice-write-scratch c = c .before .before .before .before .before .before .before .before .before .before .pre .1 .free (c .before .if1 .left)
-
-add-t10 : tie.Need-add-t10
-add-t10 c = let inside = c .before .before .before .before .before .before .before .before .before .before .pre .1 .free (c .before .if1 .left) in omega arith
-
-same-length-2 : tie.Need-same-length-2
-same-length-2 c = search needs
-
-same-length-3 : tie.Need-same-length-3
-same-length-3 c = search needs
-
 returns-2 : tie.Need-returns-2
-unfolding enqueueTurn enqueued
-returns-2 c = (record { row = c .before .before .before .before .before .copy .ensures; kept = simp (eq-eqb _ _ (c .before .if1 .left)) }, simp (eq-eqb _ _ (c .before .if1 .left)))
+unfolding enqueueTold enqueued
+returns-2 c = record { advice = simp (eq-eqb _ _ (c .if1 .left)); kept = simp (eq-eqb _ _ (c .if1 .left)) }
 
 pub enqueue-spec : {M : Type 1} → statement M
 enqueue-spec =
-    tie.close
-    (tie.spec
-    copy-requires
-    mul-if1
-    add-if1
-    mul-if1-2
-    shared-slice-read-if1
-    same-length
-    returns
-    mul-scratch
-    add-scratch
-    mul-scratch-2
-    shared-slice-read-scratch
-    mul-scratch-3
-    slice-write-scratch
-    add-t10
-    same-length-2
-    same-length-3
-    returns-2)
+    tie.close (tie.spec returns mul-scratch slice-write-scratch add-t8 same-length returns-2)

@@ -2,43 +2,11 @@
 -- Assumes nothing.
 use native.Mathlib.Omega.{arith}
 use lib.ListN.{length-set}
-use Rattle.filler.specs.Steps.{ramTurn}
+use Rattle.memory.specs.Rows.{limit}
+use Rattle.filler.specs.Steps.{ramTold}
 use borrow.Author.Needs.{needs}
 use Rattle.filler.proofs.steps.ram.Statement.{statement}
 use Rattle.filler.proofs.steps.ram.Tie as tie
-
-mul-from : tie.Need-mul-from
-mul-from c = search needs
-
-add-guard : tie.Need-add-guard
-add-guard c = search needs
-
-mul-guard : tie.Need-mul-guard
-mul-guard c = search needs
-
-shared-slice-read-guard : tie.Need-shared-slice-read-guard
-shared-slice-read-guard c = search needs
-
-add-addr : tie.Need-add-addr
-add-addr c = search needs
-
-mul-addr : tie.Need-mul-addr
-mul-addr c = search needs
-
-shared-slice-read-addr : tie.Need-shared-slice-read-addr
-shared-slice-read-addr c = search needs
-
-cast-addr : tie.Need-cast-addr
-cast-addr c = search needs
-
-add-value : tie.Need-add-value
-add-value c = search needs
-
-mul-value : tie.Need-mul-value
-mul-value c = search needs
-
-shared-slice-read-value : tie.Need-shared-slice-read-value
-shared-slice-read-value c = search needs
 
 mul-old : tie.Need-mul-old
 mul-old c = search needs
@@ -73,9 +41,6 @@ add-looked c = search needs
 looked-requires : tie.Need-looked-requires
 looked-requires c κs = search needs
 
-copy-requires : tie.Need-copy-requires
-copy-requires c κs = search needs
-
 chosen-requires : tie.Need-chosen-requires
 chosen-requires c κs = search needs
 
@@ -94,31 +59,21 @@ mul-scratch-2 c = search needs
 slice-write-scratch-2 : tie.Need-slice-write-scratch-2
 slice-write-scratch-2 c = simp length-set (omega arith)
 
+add-t15 : tie.Need-add-t15
+unfolding limit
+add-t15 c = omega (arith, c .before .before .before .before .before .before .before .before .pre .early)
+
 same-length : tie.Need-same-length
 same-length c = search needs
 
-same-length-2 : tie.Need-same-length-2
-same-length-2 c = search needs
-
 returns : tie.Need-returns
-unfolding ramTurn
-returns c = record { row = simp (c .before .before .before .copy .ensures, c .before .before .before .before .before .before .before .looked .ensures .0); kept = simp (c .before .before .before .before .before .before .before .looked .ensures .1, c .chosen .ensures) }
+unfolding ramTold
+returns c = record { advice = simp (c .before .before .before .looked .ensures .0); kept = simp (c .before .before .before .looked .ensures .1, c .chosen .ensures) }
 
 pub ram-spec : {M : Type 1} → statement M
 ram-spec =
     tie.close
     (tie.spec
-    mul-from
-    add-guard
-    mul-guard
-    shared-slice-read-guard
-    add-addr
-    mul-addr
-    shared-slice-read-addr
-    cast-addr
-    add-value
-    mul-value
-    shared-slice-read-value
     mul-old
     slice-read-old
     add-time
@@ -130,13 +85,12 @@ ram-spec =
     cast-looked
     add-looked
     looked-requires
-    copy-requires
     chosen-requires
     mul-scratch
     slice-write-scratch
     add-scratch
     mul-scratch-2
     slice-write-scratch-2
+    add-t15
     same-length
-    same-length-2
     returns)
