@@ -11,10 +11,10 @@ use lib.ListN.{length, getD, set, take}
 use lib.Seq.{sets}
 use Rattle.memory.specs.declared.Memory.{Memory}
 use Rattle.memory.specs.declared.Memory.the-variants.{Ram, Rom, Set, Stack, Queue}
-use Rattle.filler.specs.declared.steps.Cursor.{Cursor}
-use Rattle.filler.specs.declared.steps.Advice.{Advice}
 use Rattle.memory.specs.Rows.{limit}
 use Rattle.index.specs.Values.{valueAt, valuesIn, firstAt}
+use Rattle.filler.specs.declared.steps.Cursor.{Cursor}
+use Rattle.filler.specs.declared.steps.Advice.{Advice}
 use Rattle.filler.specs.Words.{opAt, guardAt, addrAt, copied, Treed}
 
 -- The words of a row, and the scratch words after it

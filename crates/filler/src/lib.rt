@@ -2,7 +2,7 @@
 use memory::Memory;
 
 mod ends;
-pub mod faults;
+mod faults;
 mod rows;
 mod steps;
 mod write;

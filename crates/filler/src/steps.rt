@@ -9,8 +9,8 @@ ghost use mathlib.Core.Path.{_≡_};
 ghost use Prim.Native.Nat.{_+_, _*_, _<_};
 ghost use lib.Dec.{eqb};
 ghost use lib.ListN.{length, getD, set};
-ghost use Rattle.filler.specs.Words.{RowFits};
 ghost use Rattle.memory.specs.Rows.{limit};
+ghost use Rattle.filler.specs.Words.{RowFits};
 ghost use Rattle.filler.specs.Steps.{Turned, Advised, ramTold, Timely, romTold, RomReady, setTold, SetReady, pushTold, PushReady, popTold, PopReady, enqueueTold, EnqueueReady, dequeueTold, DequeueReady, toldBy, ReadyBy, turn, advanced, Ready};
 
 // The clock, and where the cells begin and end that a stack or a queue holds.

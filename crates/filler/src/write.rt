@@ -6,11 +6,11 @@ use memory::Memory;
 ghost use mathlib.Core.Path.{_≡_};
 ghost use Prim.Native.Nat.{_+_, _*_, _≤_};
 ghost use lib.ListN.{length};
+ghost use Rattle.memory.specs.Rows.{limit};
 ghost use Rattle.memory.specs.Filler.{inputsIn};
 ghost use Rattle.memory.specs.Honest.{operationsFilled};
 ghost use Rattle.index.specs.Values.{valuesIn};
 ghost use Rattle.filler.specs.Words.{laid};
-ghost use Rattle.memory.specs.Rows.{limit};
 ghost use Rattle.filler.specs.Write.{widthOf, Fillable, Blank, Filled-in, Planted, Prepared, Ended};
 
 // How many cells the scratch words hold.
