@@ -2,7 +2,7 @@ pub mod Inputs
 pub mod Laid
 pub mod EndRows
 pub mod Members
-pub mod Planted
+pub mod Tree
 pub mod Forms
 pub mod Scanned
 pub mod Onward

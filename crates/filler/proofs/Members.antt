@@ -18,7 +18,7 @@ use Rattle.index.specs.Values.{valuesIn, firstAt}
 use Rattle.index.specs.Tree.{found, grown}
 use Rattle.index.proofs.Places.{first-here, first-later}
 use Rattle.index.proofs.Search.{search-finds-first}
-use Rattle.filler.specs.Words.{Treed}
+use Rattle.filler.specs.Words.{TreeIn}
 use Rattle.filler.proofs.Inputs.{values-count}
 
 pub among-first : (x : ℕ) (ys : List ℕ) → among x ys ≡ ltb (firstAt x ys) (length ys)
@@ -47,9 +47,9 @@ first-low x (y ∷ ys) (suc j) h e = go (ℕ-discrete x y) (first-low x ys j (om
     go (yes q) ih = omega (arith, first-here x y ys q)
     go (no n) ih = omega (arith, first-later x y ys n)
 
-pub tree-finds : (x w : ℕ) (inits links : List ℕ) → Treed w inits links → found x (valuesIn inits) links ≡ firstAt x (valuesIn inits)
+pub tree-finds : (x w : ℕ) (inits links : List ℕ) → TreeIn w inits links → found x (valuesIn inits) links ≡ firstAt x (valuesIn inits)
 tree-finds x w inits links t =
     let many : length (valuesIn inits) ≡ w = values-count inits w (t .held) in
     let size = t .few in
-    ap (found x (valuesIn inits)) (t .tree ∙ ap (λ (n : ℕ). grown (valuesIn inits) (replicate n 0)) (sym many))
+    ap (found x (valuesIn inits)) (t .is ∙ ap (λ (n : ℕ). grown (valuesIn inits) (replicate n 0)) (sym many))
     ∙ search-finds-first x (valuesIn inits) (omega arith)

@@ -18,10 +18,10 @@ use Rattle.memory.specs.Plain.{among}
 use Rattle.memory.specs.Honest.{filledRow, endRow, occurrences, setFrom, setEndsFrom, operationsFilled}
 use Rattle.memory.specs.Filler.{inputsIn, rowNumbers}
 use Rattle.index.specs.Values.{valueAt, valuesIn, firstAt}
-use Rattle.filler.specs.Words.{opAt, guardAt, addrAt, inputAt, Treed}
+use Rattle.filler.specs.Words.{opAt, guardAt, addrAt, inputAt, TreeIn}
 use Rattle.filler.specs.Steps.{Turn, turnOf, counted, setTold, SetReady}
 use Rattle.filler.specs.Ends.{valueEnds}
-use Rattle.filler.specs.Write.{Planted}
+use Rattle.filler.specs.Write.{TreeBuilt}
 use Rattle.filler.specs.Scan.{leveled}
 use Rattle.filler.proofs.Inputs.{inputs-count, values-count}
 use Rattle.filler.proofs.Members.{among-first, first-at, first-low}
@@ -42,7 +42,7 @@ pub record SetRun (w t : ℕ) (inits ops out₀ : List ℕ) (k : ℕ) (out s : L
   pub looked : length keys ≡ k
   pub counts : (j : ℕ) → j < w → getD s (w + j) 0 ≡ share (valuesIn inits) keys j
   pub roomy : 2 * w + t ≤ length s
-  pub treed : Treed w inits (take w s)
+  pub tree : TreeIn w inits (take w s)
   pub onward : Onward (operationsFilled Set t (valuesIn inits) (inputsIn ops)) (setFrom (valuesIn inits) keys (drop k (inputsIn ops))) k out₀ out
   pub clean : Clean Set (valuesIn inits) w (drop k (inputsIn ops))
 
@@ -89,7 +89,7 @@ module _ (w t : ℕ) (inits ops out₀ : List ℕ) (given : Given w t ops out₀
   pub set-ready : SetReady w (valueAt ops k) inits s
   unfolding key x values
   set-ready = record {
-    treed = run .treed;
+    tree = run .tree;
     countable = record {
       inside = let r = run .roomy in let m = member in let c = many in omega arith;
       low = omega (arith, version, occurrences-few x (run .keys), run .looked, given .short);
@@ -124,7 +124,7 @@ module _ (w t : ℕ) (inits ops out₀ : List ℕ) (given : Given w t ops out₀
     looked = let l = run .looked in omega arith;
     counts = counts′;
     roomy = subst (λ (n : ℕ). 2 * w + t ≤ n) (sym (length-set s (w + key) (getD s (w + key) 0 + 1))) (run .roomy);
-    treed = subst (Treed w inits) (sym (take-set-le w s (w + key) (getD s (w + key) 0 + 1) (omega arith))) (run .treed);
+    tree = subst (TreeIn w inits) (sym (take-set-le w s (w + key) (getD s (w + key) 0 + 1) (omega arith))) (run .tree);
     onward = onward-next w t ops given more (setFrom values (run .keys)) (setFrom values (x ∷ run .keys))
         (filledRow (inputAt ops k) 0 0 (occurrences x (run .keys)))
         (setTurn w k inits ops s .words)
@@ -212,15 +212,15 @@ set-ends w t inits ops out₀ out s given count run =
     ∙ ap (λ (j : ℕ). valueEnds j (valuesIn inits) s) start)
     (run .onward)
 
-pub set-start : (w t : ℕ) (inits ops out s : List ℕ) → Planted w inits s → 2 * w + t ≤ length s → Clean Set (valuesIn inits) w (inputsIn ops)
+pub set-start : (w t : ℕ) (inits ops out s : List ℕ) → TreeBuilt w inits s → 2 * w + t ≤ length s → Clean Set (valuesIn inits) w (inputsIn ops)
     → SetRun w t inits ops out 0 out s
 unfolding operationsFilled occurrences
-set-start w t inits ops out s planted roomy clean = record {
+set-start w t inits ops out s built roomy clean = record {
   keys = [];
   looked = refl;
-  counts = λ j h. planted .others j ∙ none (eqb (firstAt (getD (valuesIn inits) j 0) (valuesIn inits)) j);
+  counts = λ j h. built .others j ∙ none (eqb (firstAt (getD (valuesIn inits) j 0) (valuesIn inits)) j);
   roomy = roomy;
-  treed = planted .treed;
+  tree = built .tree;
   onward = onward-start _ out;
   clean = clean;
 }

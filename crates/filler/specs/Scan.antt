@@ -14,7 +14,7 @@ use Rattle.memory.specs.Rows.{opsDue}
 use Rattle.memory.specs.Names.{opCode}
 use Rattle.memory.specs.Honest.{Input}
 use Rattle.memory.specs.Filler.{inputFault, Placed, placed}
-use Rattle.filler.specs.Words.{Treed}
+use Rattle.filler.specs.Words.{TreeIn}
 
 -- 12: an executed pop or dequeue at depth 0
 abbrev pub emptied : Bool → ℕ → ℕ → ℕ
@@ -22,7 +22,7 @@ emptied up g level = cond up 0 (cond (eqb g 1) (cond (ltb 0 level) 0 12) 0)
 
 -- the words in which a set's elements are looked up: its search tree
 abbrev pub Linked : Memory → ℕ → List ℕ → List ℕ → Type 0
-Linked m n inits links = m ≡ Set → Treed n inits links
+Linked m n inits links = m ≡ Set → TreeIn n inits links
 
 -- 11, 12 and 13, at a level
 unfoldable pub refusal : Memory → List ℕ → ℕ → ℕ → ℕ → ℕ → ℕ → ℕ

@@ -15,7 +15,7 @@ use Rattle.memory.specs.Rows.{limit}
 use Rattle.index.specs.Values.{valueAt, valuesIn, firstAt}
 use Rattle.filler.specs.declared.steps.Cursor.{Cursor}
 use Rattle.filler.specs.declared.steps.Advice.{Advice}
-use Rattle.filler.specs.Words.{opAt, guardAt, addrAt, copied, Treed}
+use Rattle.filler.specs.Words.{opAt, guardAt, addrAt, copied, TreeIn}
 
 -- The words of a row, and the scratch words after it
 pub record Turn : Type 0 where
@@ -96,7 +96,7 @@ setTold w at v inits s =
     told 0 0 (getD s (w + firstAt v (valuesIn inits)) 0) at (counted s (w + firstAt v (valuesIn inits)))
 
 pub record SetReady (w v : ℕ) (inits s : List ℕ) : Type 0 where
-  pub treed : Treed w inits (take w s)
+  pub tree : TreeIn w inits (take w s)
   pub countable : Countable s (w + firstAt v (valuesIn inits))
 
 -- stack

@@ -39,7 +39,7 @@ unfoldable pub laid : List ℕ → ℕ → List Row → List ℕ
 laid out a rows = take a out ++ (rowNumbers rows ++ drop (a + length (rowNumbers rows)) out)
 
 -- words that hold the search tree over the elements of a set of size w
-pub record Treed (w : ℕ) (inits links : List ℕ) : Type 0 where
+pub record TreeIn (w : ℕ) (inits links : List ℕ) : Type 0 where
   pub held : 4 * w ≡ length inits
   pub few : w ≤ limit
-  pub tree : links ≡ grown (valuesIn inits) (replicate w 0)
+  pub is : links ≡ grown (valuesIn inits) (replicate w 0)

@@ -13,7 +13,7 @@ use Rattle.memory.specs.Honest.{operationsFilled}
 use Rattle.memory.specs.Filler.{inputsIn, room}
 use Rattle.filler.specs.declared.steps.Cursor.{Cursor}
 use Rattle.index.specs.Values.{valuesIn}
-use Rattle.filler.specs.Words.{laid, Treed}
+use Rattle.filler.specs.Words.{laid, TreeIn}
 use Rattle.filler.specs.Ends.{ending, EndingFits}
 use Rattle.filler.specs.Scan.{scanned}
 
@@ -46,15 +46,15 @@ pub record Filled-in (n : ℕ) (values s : List ℕ) : Type 0 where
   pub others : (j : ℕ) → getD s (n + j) 0 ≡ 0
 
 -- the first n scratch words hold the search tree of a set, and the others are 0
-pub record Planted (n : ℕ) (inits s : List ℕ) : Type 0 where
-  pub treed : Treed n inits (take n s)
+pub record TreeBuilt (n : ℕ) (inits s : List ℕ) : Type 0 where
+  pub tree : TreeIn n inits (take n s)
   pub others : (j : ℕ) → getD s (n + j) 0 ≡ 0
 
 -- the scratch words before the first operation
 abbrev pub Prepared : Memory → ℕ → List ℕ → List ℕ → Type 0
 Prepared Ram n inits s = Filled-in n (valuesIn inits) s
 Prepared Rom n inits s = Blank s
-Prepared Set n inits s = Planted n inits s
+Prepared Set n inits s = TreeBuilt n inits s
 Prepared Stack n inits s = Blank s
 Prepared Queue n inits s = Blank s
 

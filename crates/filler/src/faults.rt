@@ -13,7 +13,7 @@ ghost use Rattle.field.specs.Field.{p};
 ghost use Rattle.memory.specs.Filler.{inputsIn, rowsFault};
 ghost use Rattle.memory.specs.Rows.{sized, limit};
 ghost use Rattle.index.specs.Values.{valuesIn};
-ghost use Rattle.filler.specs.Words.{inputAt, Treed};
+ghost use Rattle.filler.specs.Words.{inputAt, TreeIn};
 ghost use Rattle.filler.specs.Scan.{emptied, Linked, refusal, moved, leveled, faultAt, scanned, initFault, initsScanned};
 
 // The number and the place of a fault; 0 and 0 where there is none.
@@ -48,7 +48,7 @@ fn outside(addr: u32, level: usize) -> u32
 
 // 13, where a value is not in the set.
 fn missing(n: usize, inits: &[u32], links: &[u32], value: u32) -> u32
-    requires { ⌜ Treed n (now inits) (now links) ⌝ }
+    requires { ⌜ TreeIn n (now inits) (now links) ⌝ }
     ensures { λ r. ⌜ r ≡ refusal Memory.Set (valuesIn (now (inits .entry))) 0 0 0 0 value ⌝ }
 {
     if index::find(inits, links, value) < n {

@@ -11,7 +11,7 @@ ghost use Rattle.memory.specs.Filler.{inputsIn};
 ghost use Rattle.memory.specs.Honest.{operationsFilled};
 ghost use Rattle.index.specs.Values.{valuesIn};
 ghost use Rattle.filler.specs.Words.{laid};
-ghost use Rattle.filler.specs.Write.{widthOf, Fillable, Blank, Filled-in, Planted, Prepared, Ended};
+ghost use Rattle.filler.specs.Write.{widthOf, Fillable, Blank, Filled-in, TreeBuilt, Prepared, Ended};
 
 // How many cells the scratch words hold.
 fn width(m: Memory, n: usize, t: usize) -> usize
@@ -40,10 +40,10 @@ fn load(n: usize, inits: &[u32], scratch: &mut [u32])
 }
 
 // The search tree over the elements of a set, in the first n words.
-fn plant(n: usize, inits: &[u32], scratch: &mut [u32])
+fn build_tree(n: usize, inits: &[u32], scratch: &mut [u32])
     requires { ⌜ (4 * n ≡ length (now inits)) × (n ≤ length (now scratch)) × (n ≤ limit) ⌝ }
     requires { ⌜ Blank (now scratch) ⌝ }
-    ensures { λ _. ⌜ Planted n (now (inits .entry)) (now (scratch .exit)) ⌝ }
+    ensures { λ _. ⌜ TreeBuilt n (now (inits .entry)) (now (scratch .exit)) ⌝ }
 {
     index::grow(inits, &mut scratch[..n]);
 }
@@ -57,7 +57,7 @@ pub fn prepare(m: Memory, n: usize, inits: &[u32], scratch: &mut [u32])
     match m {
         Memory::Ram => load(n, inits, scratch),
         Memory::Rom => {}
-        Memory::Set => plant(n, inits, scratch),
+        Memory::Set => build_tree(n, inits, scratch),
         Memory::Stack => {}
         Memory::Queue => {}
     }

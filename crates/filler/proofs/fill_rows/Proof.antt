@@ -11,7 +11,7 @@ use Rattle.memory.specs.Filler.{inputsIn, room}
 use Rattle.index.specs.Values.{valuesIn}
 use Rattle.filler.proofs.Inputs.{inputs-count, values-count}
 use Rattle.filler.proofs.FirstFault.{clean-inits, clean-operations}
-use Rattle.filler.proofs.Planted.{prepared-treed}
+use Rattle.filler.proofs.Tree.{prepared-tree}
 use Rattle.filler.proofs.Whole.{blank-all, sized-limit, allowed-size, allowed-count, refused-is, filled-is, initWords, opWords, init-words-count, op-words-count, parts-filled}
 use borrow.Author.Needs.{needs}
 use Rattle.filler.proofs.fill_rows.Statement.{statement}
@@ -71,7 +71,7 @@ scan-requires c κs = let at = c .before .before .before .before .before .before
         sized-limit (at .m) (at .n) size,
         allowed-count (at .m) (at .n) (at .t) proper,
       ),
-      (size, prepared-treed (at .m) (at .n) inits _ (c .before .before .before .prepare .ensures)),
+      (size, prepared-tree (at .m) (at .n) inits _ (c .before .before .before .prepare .ensures)),
     )
 
 clear-requires-2 : tie.Need-clear-requires-2

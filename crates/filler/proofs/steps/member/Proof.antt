@@ -21,17 +21,17 @@ find-requires : tie.Need-find-requires
 find-requires c κs = search needs
 
 add-looked : tie.Need-add-looked
-add-looked c = omega (arith, c .find .ensures, tree-finds (c .before .before .before .before .args .value) (c .before .before .before .before .args .w) (c .before .before .before .before .args .inits .now) (take (c .before .before .before .before .args .w) (c .before .before .before .before .args .scratch .now)) (c .before .before .before .before .pre .treed), c .before .before .before .before .pre .countable .inside)
+add-looked c = omega (arith, c .find .ensures, tree-finds (c .before .before .before .before .args .value) (c .before .before .before .before .args .w) (c .before .before .before .before .args .inits .now) (take (c .before .before .before .before .args .w) (c .before .before .before .before .args .scratch .now)) (c .before .before .before .before .pre .tree), c .before .before .before .before .pre .countable .inside)
 
 looked-requires : tie.Need-looked-requires
-looked-requires c κs = let ready = subst (λ (key : ℕ). Countable (c .before .before .before .before .before .args .scratch .now) (c .before .before .before .before .before .args .w + key)) (sym (c .before .find .ensures ∙ tree-finds (c .before .before .before .before .before .args .value) (c .before .before .before .before .before .args .w) (c .before .before .before .before .before .args .inits .now) (take (c .before .before .before .before .before .args .w) (c .before .before .before .before .before .args .scratch .now)) (c .before .before .before .before .before .pre .treed))) (c .before .before .before .before .before .pre .countable) in (ready .inside, ready .low)
+looked-requires c κs = let ready = subst (λ (key : ℕ). Countable (c .before .before .before .before .before .args .scratch .now) (c .before .before .before .before .before .args .w + key)) (sym (c .before .find .ensures ∙ tree-finds (c .before .before .before .before .before .args .value) (c .before .before .before .before .before .args .w) (c .before .before .before .before .before .args .inits .now) (take (c .before .before .before .before .before .args .w) (c .before .before .before .before .before .args .scratch .now)) (c .before .before .before .before .before .pre .tree))) (c .before .before .before .before .before .pre .countable) in (ready .inside, ready .low)
 
 same-length : tie.Need-same-length
 same-length c = search needs
 
 returns : tie.Need-returns
 unfolding setTold
-returns c = let key = c .before .before .before .before .find .ensures ∙ tree-finds (c .before .before .before .before .before .before .before .before .args .value) (c .before .before .before .before .before .before .before .before .args .w) (c .before .before .before .before .before .before .before .before .args .inits .now) (take (c .before .before .before .before .before .before .before .before .args .w) (c .before .before .before .before .before .before .before .before .args .scratch .now)) (c .before .before .before .before .before .before .before .before .pre .treed) in record { advice = simp (c .before .before .looked .ensures .0, key); kept = simp (c .before .before .looked .ensures .1, key) }
+returns c = let key = c .before .before .before .before .find .ensures ∙ tree-finds (c .before .before .before .before .before .before .before .before .args .value) (c .before .before .before .before .before .before .before .before .args .w) (c .before .before .before .before .before .before .before .before .args .inits .now) (take (c .before .before .before .before .before .before .before .before .args .w) (c .before .before .before .before .before .before .before .before .args .scratch .now)) (c .before .before .before .before .before .before .before .before .pre .tree) in record { advice = simp (c .before .before .looked .ensures .0, key); kept = simp (c .before .before .looked .ensures .1, key) }
 
 pub member-spec : {M : Type 1} → statement M
 member-spec =

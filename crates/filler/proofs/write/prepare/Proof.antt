@@ -16,8 +16,8 @@ enum-told-2 c = search needs
 enum-told-3 : tie.Need-enum-told-3
 enum-told-3 c = search needs
 
-plant-requires : tie.Need-plant-requires
-plant-requires c κs = search needs
+build-tree-requires : tie.Need-build-tree-requires
+build-tree-requires c κs = search needs
 
 enum-told-4 : tie.Need-enum-told-4
 enum-told-4 c = search needs
@@ -38,7 +38,7 @@ same-length-2 : tie.Need-same-length-2
 same-length-2 c = search needs
 
 returns-3 : tie.Need-returns-3
-returns-3 c = rw (c .before .before .before .before .enum-told3 .given .1) (c .before .before .plant .ensures)
+returns-3 c = rw (c .before .before .before .before .enum-told3 .given .1) (c .before .before .build-tree .ensures)
 
 returns-4 : tie.Need-returns-4
 returns-4 c = rw (c .enum-told4 .given .1) (c .before .before .before .before .pre .1)
@@ -54,7 +54,7 @@ prepare-spec =
     load-requires
     enum-told-2
     enum-told-3
-    plant-requires
+    build-tree-requires
     enum-told-4
     enum-told-5
     same-length

@@ -1,6 +1,6 @@
 -- The search tree of a set in scratch words.
---     planted         the tree grown in the first n words, with the words after them
---     prepared-treed  what a set's members are looked up in
+--     tree-built      the tree grown in the first n words, with the words after them
+--     prepared-tree   what a set's members are looked up in
 -- Assumes nothing.
 use Prim.Native.Nat.{ℕ, _+_, _*_, _≤_}
 use native.Mathlib.Omega.{arith}
@@ -13,8 +13,8 @@ use Rattle.memory.specs.declared.Memory.the-variants.{Set}
 use Rattle.memory.specs.Rows.{limit}
 use Rattle.index.specs.Values.{valuesIn}
 use Rattle.index.specs.Tree.{grown}
-use Rattle.filler.specs.Words.{Treed}
-use Rattle.filler.specs.Write.{Blank, Planted, Prepared}
+use Rattle.filler.specs.Words.{TreeIn}
+use Rattle.filler.specs.Write.{Blank, TreeBuilt, Prepared}
 
 blank-part : (n : ℕ) (s : List ℕ) → n ≤ length s → Blank s → take n s ≡ replicate n 0
 blank-part n s h b =
@@ -22,17 +22,17 @@ blank-part n s h b =
     ext-getD 0 (take n s) (replicate n 0) (long ∙ sym (length-replicate n 0))
     (λ i low. getD-take n s i 0 (omega arith) ∙ b i ∙ sym (getD-replicate n i 0 0 (omega arith)))
 
-pub planted : (n : ℕ) (inits s part : List ℕ) → 4 * n ≡ length inits → n ≤ length s → n ≤ limit → Blank s → length part ≡ n → part ≡ grown (valuesIn inits) (take n s)
-    → Planted n inits (part ++ drop n s)
-planted n inits s part count room few b long grows = record {
-  treed = record {
+pub tree-built : (n : ℕ) (inits s part : List ℕ) → 4 * n ≡ length inits → n ≤ length s → n ≤ limit → Blank s → length part ≡ n → part ≡ grown (valuesIn inits) (take n s)
+    → TreeBuilt n inits (part ++ drop n s)
+tree-built n inits s part count room few b long grows = record {
+  tree = record {
     held = count;
     few = few;
-    tree = take-at part (drop n s) n long ∙ grows ∙ ap (grown (valuesIn inits)) (blank-part n s room b);
+    is = take-at part (drop n s) n long ∙ grows ∙ ap (grown (valuesIn inits)) (blank-part n s room b);
   };
   others = λ j.
       (ap (λ (k : ℕ). getD (part ++ drop n s) (k + j) 0) (sym long) ∙ getD-append-add part (drop n s) j 0 ∙ getD-drop n s j 0 ∙ b (n + j));
 }
 
-pub prepared-treed : (m : Memory) (n : ℕ) (inits s : List ℕ) → Prepared m n inits s → m ≡ Set → Treed n inits (take n s)
-prepared-treed m n inits s h e = subst (λ (x : Memory). Prepared x n inits s) e h .treed
+pub prepared-tree : (m : Memory) (n : ℕ) (inits s : List ℕ) → Prepared m n inits s → m ≡ Set → TreeIn n inits (take n s)
+prepared-tree m n inits s h e = subst (λ (x : Memory). Prepared x n inits s) e h .tree
