@@ -105,34 +105,25 @@ module _ (k n t : ℕ) (rows out s : List ℕ) where
   away-unknown e = simp e
 
   module _ (m : Memory) (known : memoryCoded k ≡ some m) where
-    pub away-size : sized m n ≡ false → fillingOf (Refused 4 0) out s ≡ fillOf p k n t rows out s
-    unfolding fillOf fillMemory turnedAway fillingOf answerOf placeOf countOf allowed
+    pub away-size : allowed m n t ≡ false → fillingOf (Refused 4 0) out s ≡ fillOf p k n t rows out s
+    unfolding fillOf fillMemory turnedAway fillingOf answerOf placeOf countOf
     away-size e = simp (known, e)
 
-    module _ (size : sized m n ≡ true) where
-      pub away-count : limit < t → fillingOf (Refused 4 0) out s ≡ fillOf p k n t rows out s
-      unfolding fillOf fillMemory turnedAway fillingOf answerOf placeOf countOf allowed
-      away-count h = simp (known, size, lt-leb t limit h)
+    module _ (proper : allowed m n t ≡ true) where
+      pub away-rows : (length rows ≡ 4 * (n + t) → ⊥) → fillingOf (Refused 7 0) out s ≡ fillOf p k n t rows out s
+      unfolding fillOf fillMemory turnedAway fillingOf answerOf placeOf countOf
+      away-rows h = simp (known, proper, ne-eqb (length rows) (4 * (n + t)) h)
 
-      module _ (count : t ≤ limit) where
-        pub proper-is : allowed m n t ≡ true
-        unfolding allowed
-        proper-is = simp (size, le-leb t limit count)
-
-        pub away-rows : (length rows ≡ 4 * (n + t) → ⊥) → fillingOf (Refused 7 0) out s ≡ fillOf p k n t rows out s
+      module _ (all : length rows ≡ 4 * (n + t)) where
+        pub away-out : length out < 7 * room n t → fillingOf (Refused 14 0) out s ≡ fillOf p k n t rows out s
         unfolding fillOf fillMemory turnedAway fillingOf answerOf placeOf countOf
-        away-rows h = simp (known, proper-is, ne-eqb (length rows) (4 * (n + t)) h)
+        away-out h = simp (known, proper, eq-eqb (length rows) (4 * (n + t)) all, lt-leb (7 * room n t) (length out) h)
 
-        module _ (all : length rows ≡ 4 * (n + t)) where
-          pub away-out : length out < 7 * room n t → fillingOf (Refused 14 0) out s ≡ fillOf p k n t rows out s
+        module _ (wide : 7 * room n t ≤ length out) where
+          pub away-scratch : length s < room n t → fillingOf (Refused 15 0) out s ≡ fillOf p k n t rows out s
           unfolding fillOf fillMemory turnedAway fillingOf answerOf placeOf countOf
-          away-out h = simp (known, proper-is, eq-eqb (length rows) (4 * (n + t)) all, lt-leb (7 * room n t) (length out) h)
+          away-scratch h = simp (known, proper, eq-eqb (length rows) (4 * (n + t)) all, le-leb (7 * room n t) (length out) wide, lt-leb (room n t) (length s) h)
 
-          module _ (wide : 7 * room n t ≤ length out) where
-            pub away-scratch : length s < room n t → fillingOf (Refused 15 0) out s ≡ fillOf p k n t rows out s
-            unfolding fillOf fillMemory turnedAway fillingOf answerOf placeOf countOf
-            away-scratch h = simp (known, proper-is, eq-eqb (length rows) (4 * (n + t)) all, le-leb (7 * room n t) (length out) wide, lt-leb (room n t) (length s) h)
-
-            pub not-away : room n t ≤ length s → fillRows p m t (take n (inputsIn rows)) (drop n (inputsIn rows)) out s ≡ fillOf p k n t rows out s
-            unfolding fillOf fillMemory
-            not-away h = simp (known, proper-is, eq-eqb (length rows) (4 * (n + t)) all, le-leb (7 * room n t) (length out) wide, le-leb (room n t) (length s) h)
+          pub not-away : room n t ≤ length s → fillRows p m t (take n (inputsIn rows)) (drop n (inputsIn rows)) out s ≡ fillOf p k n t rows out s
+          unfolding fillOf fillMemory
+          not-away h = simp (known, proper, eq-eqb (length rows) (4 * (n + t)) all, le-leb (7 * room n t) (length out) wide, le-leb (room n t) (length s) h)

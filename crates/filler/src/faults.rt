@@ -2,6 +2,7 @@
 // init values. The number of cells, or the depth, is the level.
 use memory::Memory;
 use memory::Phase;
+use memory::numbers;
 use rules::inputs;
 use rules::ops;
 ghost use mathlib.Core.Bool.{true};
@@ -36,14 +37,18 @@ fn emptied(up: bool, guard: u32, level: usize) -> u32
     if guard != 1 {
         return 0;
     }
-    if 0 < level { 0 } else { 12 }
+    if 0 < level { 0 } else { numbers::EMPTY }
 }
 
 // 11, where an address is not below the level.
 fn outside(addr: u32, level: usize) -> u32
     ensures { λ r. ⌜ r ≡ refusal Memory.Ram [] level 0 0 addr 0 ⌝ }
 {
-    if (addr as usize) < level { 0 } else { 11 }
+    if (addr as usize) < level {
+        0
+    } else {
+        numbers::OUTSIDE
+    }
 }
 
 // 13, where a value is not in the set.
@@ -54,7 +59,7 @@ fn missing(n: usize, inits: &[u32], links: &[u32], value: u32) -> u32
     if index::find(inits, links, value) < n {
         0
     } else {
-        13
+        numbers::NOT_MEMBER
     }
 }
 

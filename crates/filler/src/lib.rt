@@ -1,5 +1,7 @@
 // Operations to advice: the filler's library. Rows are numbers in slices: 4 words an input row, 7 words an output row.
 use memory::Memory;
+use memory::numbers;
+use rules::sizes;
 
 mod ends;
 mod faults;
@@ -12,7 +14,6 @@ ghost use mathlib.Core.Path.{_≡_};
 ghost use Prim.Native.Nat.{_+_, _*_, _≤_};
 ghost use lib.ListN.{length, take, drop, replicate};
 ghost use Rattle.field.specs.Field.{p};
-ghost use Rattle.memory.specs.Rows.{sized};
 ghost use Rattle.memory.specs.Honest.{bare, filledRows};
 ghost use Rattle.memory.specs.Filler.{inputsIn, memoryCoded, fillRows, fillOf};
 ghost use Rattle.filler.specs.Answer.{fillingOf, knownOf, Roomy};
@@ -32,9 +33,6 @@ enum Known {
     Unknown,
 }
 
-// "Size n is 0 to 65,536 … Count T is 0 to 65,536."
-const LIMIT: u32 = 65536;
-
 fn memory_of(code: u32) -> Known
     ensures { λ r. ⌜ knownOf r ≡ memoryCoded code ⌝ }
 {
@@ -45,18 +43,6 @@ fn memory_of(code: u32) -> Known
         3 => Known::Is(Memory::Stack),
         4 => Known::Is(Memory::Queue),
         _ => Known::Unknown,
-    }
-}
-
-fn sized(m: Memory, size: u32) -> bool
-    ensures { λ r. ⌜ r ≡ sized m size ⌝ }
-{
-    match m {
-        Memory::Ram => size <= LIMIT,
-        Memory::Rom => size <= LIMIT,
-        Memory::Set => size <= LIMIT,
-        Memory::Stack => size == 0,
-        Memory::Queue => size == 0,
     }
 }
 
@@ -136,25 +122,22 @@ pub fn fill(
     ensures { λ r. ⌜ fillingOf r (now (out .exit)) (now (scratch .exit)) ≡ fillOf p memory size count (now (rows .entry)) (now (out .entry)) (now (scratch .entry)) ⌝ }
 {
     let Known::Is(m) = memory_of(memory) else {
-        return Filled::Refused(4, 0);
+        return Filled::Refused(numbers::NOT_ALLOWED, 0);
     };
-    if !sized(m, size) {
-        return Filled::Refused(4, 0);
-    }
-    if LIMIT < count {
-        return Filled::Refused(4, 0);
+    if !sizes::allowed(m, size, count) {
+        return Filled::Refused(numbers::NOT_ALLOWED, 0);
     }
     let n = size as usize;
     let t = count as usize;
     if rows.len() != 4 * (n + t) {
-        return Filled::Refused(7, 0);
+        return Filled::Refused(numbers::NOT_COMPLETE, 0);
     }
     let room = 2 * n + 3 * t;
     if out.len() < 7 * room {
-        return Filled::Refused(14, 0);
+        return Filled::Refused(numbers::OUTPUT_SHORT, 0);
     }
     if scratch.len() < room {
-        return Filled::Refused(15, 0);
+        return Filled::Refused(numbers::SCRATCH_SHORT, 0);
     }
     fill_rows(m, n, t, rows, out, scratch)
 }
