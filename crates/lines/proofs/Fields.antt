@@ -13,12 +13,12 @@ use lib.Dec.{eqb, leb, leb·zero, leb·suc-suc, leb·suc-zero, eqb·suc-suc}
 use lib.ListN.{length, getD, set, take, drop, length-set, length-drop}
 use lib.Seq.{take-all, drop-cons, drop-drop, drop-length, take-suc-set}
 use borrow.Author.Tests.{eq-eqb, ne-eqb, le-leb, lt-leb}
-use Rattle.memory.specs.Bytes.{longest, fitting, comma, onto, fields, digit, digits, decimalFrom, numeral, numerals, numbers}
+use Rattle.memory.specs.Bytes.{longest, fitting, comma, onto, fields, digit, digits, decimalFrom, numeral, numerals, numbers, readable}
 use Rattle.lines.specs.declared.Name.{Name}
 use Rattle.lines.specs.declared.Number.{Number}
 use Rattle.lines.specs.declared.Number.the-variants.{Read, Unread}
 use Rattle.lines.specs.Keys.{keyOf}
-use Rattle.lines.specs.Walk.{run, most, numberOf, numberFrom, first, nameOf, Taken, taken, malformed, fieldsTaken, lineTaken}
+use Rattle.lines.specs.Walk.{run, most, numberOf, numberFrom, first, nameOf, Taken, taken, malformed, lineTaken}
 use Rattle.lines.proofs.Numbers.{run-within}
 use Rattle.lines.proofs.Names.{first-within}
 
@@ -255,24 +255,10 @@ unfoldable takenWith : ℕ → Option (List ℕ) → Taken
 takenWith key none = malformed
 takenWith key (some ns) = taken key ns
 
-taken-cond :
-    (many numbered : Bool) (key : ℕ) (ns : List ℕ)
-    → cond many (cond numbered (taken key ns) malformed) malformed ≡ takenWith key (cond (many && numbered) (some ns) none)
+taken-cond : (test : Bool) (key : ℕ) (ns : List ℕ) → cond test (taken key ns) malformed ≡ takenWith key (cond test (some ns) none)
 unfolding takenWith
-taken-cond true true key ns = refl
-taken-cond true false key ns = refl
-taken-cond false numbered key ns = refl
-
--- are what the line is taken apart to
-read-line : (total : ℕ) (text : List ℕ) → fieldsTaken total (fields text) ≡ takenWith (keyOf (first text)) (readFrom total text (length (first text)))
-unfolding fieldsTaken numbersOf
-read-line total text =
-    rw (read-fields total text (length (first text)) (first-within text), fields-past-first text, fields-first text)
-    (taken-cond
-    (eqb (suc (length (drop 1 (fields text)))) (suc total))
-    (numerals (drop 1 (fields text)))
-    (keyOf (first text))
-    (numbers (drop 1 (fields text))))
+taken-cond true key ns = refl
+taken-cond false key ns = refl
 
 -- what is read after the numbers vs
 unfoldable pub prepends : List ℕ → Option (List ℕ) → Option (List ℕ)
@@ -294,13 +280,20 @@ unfolding prepends prepend
 prepends-some [] ws = refl
 prepends-some (v ∷ vs) ws = rw (prepends-some vs ws)
 
--- the line is taken apart to the numbers that are read, if it fits
+-- are what the line is taken apart to, if it fits
 line-is :
     (total : ℕ) (text : List ℕ) (ended : Bool) (read : Option (List ℕ))
     → length text ≤ 80 → ended ≡ true → readFrom total text (length (first text)) ≡ read
     → takenWith (keyOf (first text)) read ≡ lineTaken total (record { text = text; ended = ended })
-unfolding lineTaken fitting longest
-line-is total text ended read fits is reads = rw (le-leb (length text) 80 fits, is, read-line total text, reads)
+unfolding lineTaken readable fitting longest numbersOf
+line-is total text ended read fits is reads =
+    let after = fields-past-first text in
+    rw (sym reads, read-fields total text (length (first text)) (first-within text), after, le-leb (length text) 80 fits, is, fields-first text)
+    (sym
+    (taken-cond
+    (eqb (suc (length (drop 1 (fields text)))) (suc total) && numerals (drop 1 (fields text)))
+    (keyOf (first text))
+    (numbers (drop 1 (fields text)))))
 
 -- A line that fits is being read: of `total` numbers the first i stand in ns, and the others are read from a position on
 pub record Reading (total : ℕ) (text : List ℕ) (ended : Bool) (ns : List ℕ) (i at : ℕ) : Type 0 where
@@ -377,9 +370,9 @@ module _ {total : ℕ} {text : List ℕ} {ended : Bool} {ns : List ℕ} {i at : 
 -- a line that does not fit is taken apart to none
 module _ (total : ℕ) (text : List ℕ) (ended : Bool) where
   pub line-long : 80 < length text → malformed ≡ lineTaken total (record { text = text; ended = ended })
-  unfolding lineTaken fitting longest
+  unfolding lineTaken readable fitting longest
   line-long long = rw (lt-leb (length text) 80 long)
 
   pub line-broken : ended ≡ false → malformed ≡ lineTaken total (record { text = text; ended = ended })
-  unfolding lineTaken fitting longest
+  unfolding lineTaken readable fitting longest
   line-broken is = rw (is, and-false)

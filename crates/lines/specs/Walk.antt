@@ -5,7 +5,7 @@ use mathlib.Core.Bool.{cond}
 use mathlib.Core.List.{List, [], _∷_}
 use lib.Dec.{eqb}
 use lib.ListN.{length, getD, drop}
-use Rattle.memory.specs.Bytes.{Line, fitting, comma, fields, digit, decimalFrom, numeral, numerals, numbers}
+use Rattle.memory.specs.Bytes.{Line, comma, fields, digit, decimalFrom, numeral, numbers, readable}
 use Rattle.lines.specs.declared.Run.{Run}
 use Rattle.lines.specs.declared.Number.{Number}
 use Rattle.lines.specs.declared.Number.the-variants.{Read, Unread}
@@ -51,15 +51,11 @@ pub data Taken : Type 0 where
   taken : ℕ → List ℕ → Taken
   malformed : Taken
 
--- what the fields of a line are taken apart to, where a name and k numbers are due
-unfoldable pub fieldsTaken : ℕ → List (List ℕ) → Taken
-fieldsTaken k fs =
-    cond (eqb (length fs) (suc k))
-    (cond (numerals (drop 1 fs)) (taken (keyOf (getD fs 0 [])) (numbers (drop 1 fs))) malformed)
-    malformed
-
+-- what a line is taken apart to, where a name and k numbers are due
 unfoldable pub lineTaken : ℕ → Line → Taken
-lineTaken k line = cond (fitting line) (fieldsTaken k (fields (line .text))) malformed
+lineTaken k line =
+    let fs = fields (line .text) in
+    cond (readable (suc k) line) (taken (keyOf (getD fs 0 [])) (numbers (drop 1 fs))) malformed
 
 -- what an answer says that a line is taken apart to, with the numbers that it leaves in the slice lent to it
 unfoldable pub splitOf : List ℕ → Split → Taken

@@ -8,13 +8,13 @@ use mathlib.Core.Bool.{Bool, true, false, cond}
 use mathlib.Core.Option.{Option, none, some}
 use mathlib.Core.List.{List, [], _∷_, _++_, map, append-nil, append-assoc}
 use lib.Dec.{eqb, leb, ltb, lit≤}
-use lib.ListN.{length, getD, take, drop, length-append}
+use lib.ListN.{length, take, drop, length-append}
 use lib.Seq.{length-sets, sets-eq, take-at}
 use borrow.Author.Tests.{leb-true, ltb-true, ltb-false}
 use Rattle.memory.specs.declared.Memory.{Memory}
 use Rattle.memory.specs.declared.Intake.{Intake}
 use Rattle.memory.specs.Text.{bytes}
-use Rattle.memory.specs.Bytes.{Line, longest, fitting, fields, numerals, numbers, allBelow, linesOf}
+use Rattle.memory.specs.Bytes.{Line, longest, linesOf}
 use Rattle.memory.specs.Names.{fillNames, inputNames, memoryNamed, opCode}
 use Rattle.memory.specs.Rows.{limit, sized, allowed}
 use Rattle.memory.specs.File.{Refusal, refusal, namesFault}
@@ -22,10 +22,11 @@ use Rattle.memory.specs.Step.{top, raise}
 use Rattle.memory.specs.Honest.{Input}
 use Rattle.memory.specs.Filler.{inputsIn, inputNumbers}
 use Rattle.memory.specs.Print.{refusalText}
-use Rattle.memory.specs.FillFile.{fillLimit, fillAllowed, Job, job, noJob, jobOf, jobOfFields, parseJob, InputLine, sound, faulty, inputOfFields, parseInput, inputLineFault, inputsFault, inputOfLine, inputsOfLines, runText, inputsText, jobText, jobLinesText, fillLinesText, fillText}
+use Rattle.memory.specs.FillFile.{fillLimit, fillAllowed, Job, job, noJob, jobFields, jobOf, jobRead, parseJob, InputLine, sound, faulty, inputFields, inputRead, parseInput, inputLineFault, inputsFault, inputOfLine, inputsOfLines, runText, inputsText, jobText, jobLinesText, fillLinesText, fillText}
 use Rattle.memory.specs.Pieces.{cut, bytesIn, endIn}
 use Rattle.memory.specs.FillStream.{Gathered, gathered, refuseOn, moveTo, untaken, namesTaken, jobTaken, rowsDue, refuseRow, passRow, storedAt, inputTaken, rowTaken, openLine, lineTaken, endFault, endTaken, dueWords, gatheredText, unfilled, fillEnd}
 use Rattle.memory.specs.Statements.{FillStreamIsText}
+use Rattle.memory.proofs.ReadFields.{decided, read-fields, long-fields}
 use Rattle.memory.proofs.ReadRows.{both-pass}
 use Rattle.memory.proofs.FillerRows.{inputs-coded, input-numbers-length}
 use Rattle.memory.proofs.Pieces.{lineWith, cut-reads, cut-names, linesIn, pieces-are-lines}
@@ -40,12 +41,12 @@ unfolding inputNames bytes longest
 input-names-fit = lit≤ tt
 
 cut-job : (q : ℕ) (text : List ℕ) (ended : Bool) → parseJob q (lineWith (cut text) ended) ≡ parseJob q (lineWith text ended)
-unfolding parseJob fitting
-cut-job q text ended = cut-reads (parseJob q) (noJob 2) (λ t e long. rw long refl) text ended
+unfolding parseJob jobRead
+cut-job q text ended = cut-reads (parseJob q) (noJob 2) (λ t e long. ap jobRead (long-fields q jobFields (lineWith t e) long)) text ended
 
 cut-input : (q : ℕ) (text : List ℕ) (ended : Bool) → parseInput q (lineWith (cut text) ended) ≡ parseInput q (lineWith text ended)
-unfolding parseInput fitting
-cut-input q text ended = cut-reads (parseInput q) (faulty 2) (λ t e long. rw long refl) text ended
+unfolding parseInput inputRead
+cut-input q text ended = cut-reads (parseInput q) (faulty 2) (λ t e long. ap inputRead (long-fields q inputFields (lineWith t e) long)) text ended
 
 pub cut-line : (q : ℕ) (g : Gathered) (text : List ℕ) (ended : Bool) → lineTaken q g (lineWith (cut text) ended) ≡ lineTaken q g (lineWith text ended)
 unfolding lineTaken openLine rowTaken
@@ -100,20 +101,9 @@ abbrev pub Faulted : InputLine → Type 0
 Faulted (sound x) = Unit {0}
 Faulted (faulty f) = eqb f 0 ≡ false
 
--- a choice has what both its branches have
-chosen : {A : Type 0} (P : A → Type 0) (b : Bool) (x y : A) → (b ≡ true → P x) → P y → P (cond b x y)
-chosen P true x y px py = px refl
-chosen P false x y px py = py
-
 pub input-faulted : (q : ℕ) (line : Line) → Faulted (parseInput q line)
-unfolding parseInput inputOfFields
-input-faulted q line =
-    let fs : List (List ℕ) = fields (line .text) in
-    chosen Faulted (fitting line) _ (faulty 2)
-    (λ _. chosen Faulted (eqb (length fs) 4) _ (faulty 2)
-    (λ _. chosen Faulted (numerals (drop 1 fs)) _ (faulty 2) (λ _. chosen Faulted (allBelow q (numbers (drop 1 fs))) _ (faulty 3) (λ _. tt) refl) refl)
-    refl)
-    refl
+unfolding parseInput inputRead
+input-faulted q line = read-fields (λ x. Faulted (inputRead x)) q inputFields refl refl (λ name ns many below. tt) line
 
 -- The intake between two rows
 rowsIntake : Memory → ℕ → ℕ → ℕ → Intake
@@ -247,20 +237,11 @@ Tested (noJob f) = eqb f 0 ≡ false
 job-of-tested : (m : Option Memory) (n t : ℕ) → Tested (jobOf m n t)
 unfolding jobOf
 job-of-tested none n t = refl
-job-of-tested (some m) n t = chosen Tested (fillAllowed m n t) _ (noJob 4) (λ e. e) refl
+job-of-tested (some m) n t = decided Tested (fillAllowed m n t) (λ e. e) refl
 
 job-tested : (q : ℕ) (line : Line) → Tested (parseJob q line)
-unfolding parseJob jobOfFields
-job-tested q line =
-    let fs : List (List ℕ) = fields (line .text) in
-    let ns : List ℕ = numbers (drop 1 fs) in
-    chosen Tested (fitting line) _ (noJob 2)
-    (λ _. chosen Tested (eqb (length fs) 3) _ (noJob 2)
-    (λ _. chosen Tested (numerals (drop 1 fs)) _ (noJob 2)
-    (λ _. chosen Tested (allBelow q ns) _ (noJob 3) (λ _. job-of-tested (memoryNamed (getD fs 0 [])) (getD ns 0 0) (getD ns 1 0)) refl)
-    refl)
-    refl)
-    refl
+unfolding parseJob jobRead
+job-tested q line = read-fields (λ x. Tested (jobRead x)) q jobFields refl refl (λ name ns many below. job-of-tested (memoryNamed name) _ _) line
 
 -- "The filling program takes size and count up to 128"
 pub fill-limited : (m : Memory) (n t : ℕ) → fillAllowed m n t ≡ true → (n ≤ 128) × (t ≤ 128)

@@ -20,6 +20,7 @@ use Rattle.memory.specs.Names.{opCode, isOp}
 use Rattle.memory.specs.Rows.{opsDue, opIn, rowBelow}
 use Rattle.memory.specs.Plain.{among}
 use Rattle.memory.specs.Honest.{Input, filledRow, bare, endRow, rangeRow, occurrences, rangeRowsFrom, Cell, cell, cellAt, ramAge, ramRow, ramCells, ramEnds, ramFrom, romEndsFrom, romFrom, setEndsFrom, setFrom, topCell, stackEnds, popTime, popRow, stackFrom, queueFrom, operationsFilled, filledRows}
+use Rattle.memory.proofs.ReadFields.{decided}
 use Rattle.memory.proofs.ReadRows.{both-pass, RowsBelow, row-below}
 use Rattle.memory.proofs.Operations.{not-among, other-not-due}
 use Rattle.memory.proofs.Phases.{formed-guard}
@@ -28,11 +29,7 @@ use Rattle.memory.proofs.RoundTrip.{Printable, AllPrintable}
 use Rattle.memory.proofs.HonestLookups.{All, occurs-at-most}
 use Rattle.memory.proofs.FillerRows.{DueInput, DueInputs, valuesOf, Unrefused}
 
--- What holds of both choices holds of the chosen one; of the first it may suppose the test.
-pub decided : {A : Type 0} (P : A → Type 0) (b : Bool) {x y : A} → (b ≡ true → P x) → P y → P (cond b x y)
-decided P true px py = px refl
-decided P false px py = py
-
+-- What holds of both choices holds of the chosen one.
 chosen : {A : Type 0} (P : A → Type 0) (b : Bool) {x y : A} → P x → P y → P (cond b x y)
 chosen P b px py = decided P b (λ e. px) py
 

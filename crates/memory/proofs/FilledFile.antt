@@ -15,19 +15,19 @@ use Rattle.field.specs.Field.{p}
 use Rattle.memory.specs.declared.Memory.{Memory}
 use Rattle.memory.specs.declared.Op.{Op}
 use Rattle.memory.specs.declared.Phase.the-variants.{Starting, Operating}
-use Rattle.memory.specs.Bytes.{Line, fitting, same, fields, numerals, numbers, allBelow, linesOf}
+use Rattle.memory.specs.Bytes.{Line, same, allBelow, linesOf}
 use Rattle.memory.specs.Names.{fillNames, inputNames, memoryNamed}
 use Rattle.memory.specs.Rows.{allowed, opsDue, opIn, formed}
 use Rattle.memory.specs.File.{Refusal, refusal, namesFault, fileReport}
 use Rattle.memory.specs.Honest.{Input, bare, filledRows}
 use Rattle.memory.specs.Filler.{Placed, inputFault, rowsFault}
 use Rattle.memory.specs.Print.{refusalText, filledText, headerText}
-use Rattle.memory.specs.FillFile.{fillLimit, fillAllowed, Job, job, noJob, jobOf, jobOfFields, parseJob, InputLine, sound, faulty, inputOfFields, parseInput, inputLineFault, inputsFault, inputOfLine, inputsOfLines, runText, inputsText, jobText, jobLinesText, fillLinesText, fillText}
+use Rattle.memory.specs.FillFile.{fillLimit, fillAllowed, Job, job, noJob, jobFields, jobOf, jobRead, parseJob, InputLine, sound, faulty, inputFields, inputRead, parseInput, inputLineFault, inputsFault, inputOfLine, inputsOfLines, runText, inputsText, jobText, jobLinesText, fillLinesText, fillText}
 use Rattle.memory.specs.FillStream.{late}
 use Rattle.memory.specs.Statements.{Fillable, FillNumber, FillAccepted, FillingAccepted}
+use Rattle.memory.proofs.ReadFields.{decided, read-fields}
 use Rattle.memory.proofs.ReadRows.{both-pass, chosen-zero}
 use Rattle.memory.proofs.HonestLookups.{All}
-use Rattle.memory.proofs.FilledBelow.{decided}
 use Rattle.memory.proofs.HonestFile.{honest-file-accepted}
 use Rattle.memory.proofs.FillTested.{tested-rows-late}
 
@@ -43,17 +43,11 @@ good-job-of (some m) n t =
     decided GoodJob (fillAllowed m n t) (λ e. both-pass (allowed m n t) (leb n fillLimit && leb t fillLimit) e .0) (omega arith, omega arith)
 
 good-job : (q : ℕ) (line : Line) → GoodJob (parseJob q line)
-unfolding parseJob jobOfFields
+unfolding parseJob jobRead
 good-job q line =
-    decided GoodJob (fitting line)
-    (λ fit. decided GoodJob (eqb (length (fields (line .text))) 3)
-    (λ three. decided GoodJob (numerals (drop 1 (fields (line .text))))
-    (λ all. decided GoodJob (allBelow q (numbers (drop 1 (fields (line .text)))))
-    (λ below. good-job-of (memoryNamed (getD (fields (line .text)) 0 [])) _ _)
-    (omega arith, omega arith))
-    (omega arith, omega arith))
-    (omega arith, omega arith))
-    (omega arith, omega arith)
+    read-fields (λ x. GoodJob (jobRead x)) q jobFields (omega arith, omega arith) (omega arith, omega arith)
+    (λ name ns many below. good-job-of (memoryNamed name) _ _)
+    line
 
 -- A row line reads as a row, or as a fault.
 abbrev GoodLine : InputLine → Type 0
@@ -61,17 +55,9 @@ GoodLine (sound i) = Unit {0}
 GoodLine (faulty f) = (1 ≤ f) × (f ≤ 7)
 
 good-line : (q : ℕ) (line : Line) → GoodLine (parseInput q line)
-unfolding parseInput inputOfFields
+unfolding parseInput inputRead
 good-line q line =
-    decided GoodLine (fitting line)
-    (λ fit. decided GoodLine (eqb (length (fields (line .text))) 4)
-    (λ four. decided GoodLine (numerals (drop 1 (fields (line .text))))
-    (λ all. decided GoodLine (allBelow q (numbers (drop 1 (fields (line .text)))))
-    (λ below. tt)
-    (omega arith, omega arith))
-    (omega arith, omega arith))
-    (omega arith, omega arith))
-    (omega arith, omega arith)
+    read-fields (λ x. GoodLine (inputRead x)) q inputFields (omega arith, omega arith) (omega arith, omega arith) (λ name ns many below. tt) line
 
 good-lines : (q : ℕ) (lines : List Line) → All GoodLine (map (parseInput q) lines)
 good-lines q [] = tt

@@ -7,9 +7,8 @@ use mathlib.Core.Path.{_≡_, refl, sym, _∙_, ap, ap₂}
 use mathlib.Core.Bool.{true}
 use mathlib.Core.Option.{some}
 use mathlib.Core.List.{List, [], _∷_, _++_, map, append-assoc}
-use lib.Dec.{leb}
 use lib.ListN.{length, length-append}
-use borrow.Author.Tests.{lt-ltb, le-leb}
+use borrow.Author.Tests.{lt-ltb}
 use Rattle.algebra.specs.Prime.{Prime}
 use Rattle.algebra.proofs.Mersenne.{prime-p}
 use Rattle.field.specs.Field.{p}
@@ -20,10 +19,10 @@ use Rattle.memory.specs.declared.Parsed.the-variants.{Sound}
 use Rattle.memory.specs.declared.Challenge.{Challenge}
 use Rattle.memory.specs.declared.Report.{Report}
 use Rattle.memory.specs.Text.{bytes}
-use Rattle.memory.specs.Bytes.{Line, longest, fitting, comma, feed, same, fields, allBelow, linesOf}
+use Rattle.memory.specs.Bytes.{Line, comma, feed, same, allBelow, linesOf}
 use Rattle.memory.specs.Names.{valueNames, rowNames, memoryName, memoryNamed}
 use Rattle.memory.specs.Rows.{limit, allowed}
-use Rattle.memory.specs.File.{parsedRow, rowsOf, parseRows, refusal, accepted, balanceReport, rowsReport, valuesFault, valuesReport, opens, openedBy, openingOfFields, parseValues, namesFault, namesReport, openingReport, linesReport, fileReport}
+use Rattle.memory.specs.File.{parsedRow, rowsOf, parseRows, refusal, accepted, balanceReport, rowsReport, valuesFault, valuesReport, opens, openedBy, valuesRead, parseValues, namesFault, namesReport, openingReport, linesReport, fileReport}
 use Rattle.memory.specs.Honest.{Input, filledRows}
 use Rattle.memory.specs.Print.{numberText, rowsText, filledText, headerText}
 use Rattle.memory.specs.Step.{runOf, freshOf, endOf, reportOf}
@@ -34,7 +33,7 @@ use Rattle.memory.proofs.Phases.{Parts, parts-no-fault}
 use Rattle.memory.proofs.Gates.{parts-gates}
 use Rattle.memory.proofs.Decimal.{tenDigits}
 use Rattle.memory.proofs.Lengths.{numbers-length}
-use Rattle.memory.proofs.RoundTrip.{above, line-first, joined, joined-fields, joined-above, numbers-back, numerals-back, numbers-line, allBelow-more, rows-round-trip}
+use Rattle.memory.proofs.RoundTrip.{above, line-first, joined, joined-above, numbers-line, allBelow-more, fields-back, rows-round-trip}
 use Rattle.memory.proofs.FillerRows.{valuesOf, Unrefused, no-refusal}
 use Rattle.memory.proofs.HonestRows.{filled-parts}
 use Rattle.memory.proofs.HonestBalances.{filled-balances, values-pass}
@@ -144,21 +143,13 @@ value-length m n t ch h =
     )
 
 -- and reads as its values
-values-fields : (q : ℕ) (m : Memory) (n t : ℕ) (ch : Challenge) → q ≤ tenDigits → allBelow q (valuesIn n t ch) ≡ true
-    → openingOfFields q (memoryName m ∷ map numberText (valuesIn n t ch)) ≡ opens m n t ch
-unfolding openingOfFields openedBy valuesIn
-values-fields q m n t ch h below =
-    let digits : allBelow tenDigits (valuesIn n t ch) ≡ true = allBelow-more q tenDigits (valuesIn n t ch) h below in
-    simp (numerals-back (valuesIn n t ch) digits, numbers-back (valuesIn n t ch) digits, below, memory-back m)
-
 value-line-back : (q : ℕ) (m : Memory) (n t : ℕ) (ch : Challenge) → q ≤ tenDigits → allBelow q (valuesIn n t ch) ≡ true
     → parseValues q (ended-line (valueText m n t ch)) ≡ opens m n t ch
-unfolding parseValues ended-line fitting longest valuesIn
+unfolding parseValues valuesRead openedBy ended-line valueText valuesIn
 value-line-back q m n t ch h below =
     let digits : allBelow tenDigits (valuesIn n t ch) ≡ true = allBelow-more q tenDigits (valuesIn n t ch) h below in
-    let short : leb (length (valueText m n t ch)) 80 ≡ true = le-leb (length (valueText m n t ch)) 80 (omega (arith, value-length m n t ch digits)) in
-    let parts : fields (valueText m n t ch) ≡ memoryName m ∷ map numberText (valuesIn n t ch) = unfold valueText in joined-fields (memoryName m) (valuesIn n t ch) (memory-above m) in
-    simp (short, parts, values-fields q m n t ch h below)
+    let read = fields-back q (memoryName m) (valuesIn n t ch) h (memory-above m) below (omega (arith, value-length m n t ch digits)) in
+    rw (read, memory-back m)
 
 -- A file with a right header is what its rows are.
 file-of-rows : (q : ℕ) (m : Memory) (n t : ℕ) (ch : Challenge) (rows : List Row) → q ≤ tenDigits → allBelow q (valuesIn n t ch) ≡ true → valuesFault q m n t ch ≡ 0

@@ -17,6 +17,7 @@ pub mod StackCells
 pub mod StackSound
 pub mod StackComplete
 pub mod Balance
+pub mod ReadFields
 pub mod ReadRows
 pub mod Phases
 pub mod WellFormed

@@ -1,25 +1,21 @@
 -- What lines read as: every number of a row that a line reads as is below q.
 -- Assumes nothing.
-use Prim.Native.Nat.{ℕ, zero, suc, _<_}
-use mathlib.Core.Path.{_≡_, refl, ap}
+use Prim.Native.Nat.{ℕ, zero, suc, _-_, _<_}
+use mathlib.Core.Path.{_≡_, refl}
 use mathlib.Core.Logic.{_≢_}
 use mathlib.Core.Bool.{Bool, true, false, _&&_, cond, false≢true}
 use mathlib.Core.List.{List, [], _∷_, _++_}
 use native.Mathlib.Omega.{arith}
 use lib.Dec.{eqb, ltb}
-use lib.ListN.{length, getD, take, drop, length-drop}
-use borrow.Author.Tests.{eqb-true, ltb-true, lt-ltb}
+use lib.ListN.{length, getD, take, drop}
+use borrow.Author.Tests.{ltb-true, lt-ltb}
 use Rattle.memory.specs.declared.Row.{Row}
 use Rattle.memory.specs.declared.Parsed.{Parsed}
 use Rattle.memory.specs.declared.Parsed.the-variants.{Sound, Fault}
-use Rattle.memory.specs.Bytes.{Line, fitting, fields, numerals, numbers, allBelow}
-use Rattle.memory.specs.Rows.{rowBelow, rowOfFields, parseRow}
+use Rattle.memory.specs.Bytes.{Line, allBelow, named}
+use Rattle.memory.specs.Rows.{rowBelow, rowFields, rowWith, rowRead, parseRow}
 use Rattle.memory.specs.File.{noRow, parsedRow, rowsOf, parseRows}
-
--- a statement about both branches of a choice
-either-branch : (P : Parsed → Type 0) (b : Bool) (x y : Parsed) → (b ≡ true → P x) → P y → P (cond b x y)
-either-branch P true x y px py = px refl
-either-branch P false x y px py = py
+use Rattle.memory.proofs.ReadFields.{read-fields}
 
 -- the numbers of a row are below q
 abbrev pub RowBelow : ℕ → Row → Type 0
@@ -55,36 +51,15 @@ entry-below q [] i h e = absurd (omega arith)
 entry-below q (x ∷ xs) zero h e = both-pass (ltb x q) (allBelow q xs) e .0
 entry-below q (x ∷ xs) (suc i) h e = entry-below q xs i (omega arith) (both-pass (ltb x q) (allBelow q xs) e .1)
 
--- a number for each field
-numbers-length : (fs : List (List ℕ)) → length (numbers fs) ≡ length fs
-unfolding numbers
-numbers-length [] = refl
-numbers-length (f ∷ fs) = ap suc (numbers-length fs)
-
--- what seven fields read as
-fields-numbered : (q : ℕ) (fs : List (List ℕ)) → length fs ≡ 7 → Numbered q (rowOfFields q fs)
-unfolding rowOfFields rowBelow allBelow
-fields-numbered q fs seven =
-    either-branch (Numbered q) (numerals (drop 1 fs)) _ (Fault 2)
-    (λ numeral. either-branch (Numbered q) (allBelow q ns) _ (Fault 3)
-    (λ below. simp (at 0 (omega arith) below, at 1 (omega arith) below, at 2 (omega arith) below, at 3 (omega arith) below, at 4 (omega arith) below, at 5 (omega arith) below))
-    tt)
-    tt
-  where
-    ns : List ℕ
-    ns = numbers (drop 1 fs)
-
-    at : (i : ℕ) → i < 6 → allBelow q ns ≡ true → ltb (getD ns i 0) q ≡ true
-    at i h below = entry-below q ns i (omega (arith, numbers-length (drop 1 fs), length-drop 1 fs)) below
-
 -- what a line reads as
 line-numbered : (q : ℕ) (line : Line) → Numbered q (parseRow q line)
-unfolding parseRow
-line-numbered q line =
-    let fs : List (List ℕ) = fields (line .text) in
-    either-branch (Numbered q) (fitting line) _ (Fault 2)
-    (λ fit. either-branch (Numbered q) (eqb (length fs) 7) _ (Fault 2) (λ seven. fields-numbered q fs (eqb-true (length fs) 7 seven)) tt)
-    tt
+unfolding parseRow rowRead rowWith rowBelow allBelow
+line-numbered q line = read-fields (λ x. Numbered q (rowRead x)) q rowFields tt tt row-numbered line
+  where
+    row-numbered : (name ns : List ℕ) → length ns ≡ rowFields - 1 → allBelow q ns ≡ true → Numbered q (rowRead (named name ns))
+    row-numbered name ns six below =
+        let at : (i : ℕ) → i < rowFields - 1 → ltb (getD ns i 0) q ≡ true = λ i h. entry-below q ns i (omega arith) below in
+        simp (at 0 (omega arith), at 1 (omega arith), at 2 (omega arith), at 3 (omega arith), at 4 (omega arith), at 5 (omega arith))
 
 -- the test of a row's numbers, where it passes
 pub row-below : (q : ℕ) (row : Row) → rowBelow q row ≡ true → RowBelow q row

@@ -3,20 +3,20 @@
 use mathlib.Core.Path.{_≡_, refl, sym, ap, ap₂, _∙_}
 use mathlib.Core.Bool.{Bool, true, false, _&&_}
 use mathlib.Core.List.{List, [], _∷_, _++_, map, append-assoc, append-nil}
-use Prim.Native.Nat.{ℕ, _≤_, _<_}
+use Prim.Native.Nat.{ℕ, suc, _≤_, _<_}
 use native.Mathlib.Omega.{arith}
 use lib.Dec.{eqb, leb, ltb}
-use lib.ListN.{length, length-append}
-use borrow.Author.Tests.{ne-eqb, leb-true, ltb-true, lt-ltb, le-leb}
+use lib.ListN.{length, length-append, length-map}
+use borrow.Author.Tests.{eq-eqb, ne-eqb, leb-true, ltb-true, lt-ltb, le-leb}
 use Rattle.memory.specs.declared.Op.{Op}
 use Rattle.memory.specs.declared.Op.the-variants.{Init, Access, Look, Member, Push, Pop, Enqueue, Dequeue, End, Range, Other}
 use Rattle.memory.specs.declared.Row.{Row}
 use Rattle.memory.specs.declared.Parsed.{Parsed}
 use Rattle.memory.specs.declared.Parsed.the-variants.{Sound}
 use Rattle.memory.specs.Text.{bytes}
-use Rattle.memory.specs.Bytes.{Line, longest, fitting, comma, feed, same, onto, fields, digit, digits, numerals, numbers, allBelow, before, linesOf}
+use Rattle.memory.specs.Bytes.{Line, longest, fitting, comma, feed, same, onto, fields, digit, digits, numerals, numbers, allBelow, named, readable, fieldsOf, before, linesOf}
 use Rattle.memory.specs.Names.{opName, opNamed, opCode, isOp}
-use Rattle.memory.specs.Rows.{rowOfFields, parseRow}
+use Rattle.memory.specs.Rows.{rowWith, rowRead, parseRow}
 use Rattle.memory.specs.Print.{numberText, numbersText, rowText, rowsText}
 use Rattle.memory.proofs.Decimal.{tenDigits, number-digits, number-value, number-numeral}
 use Rattle.memory.proofs.Lengths.{both-true, columnsOf, row-length}
@@ -198,30 +198,33 @@ name-back End e = refl
 name-back Range e = refl
 name-back Other e = let z : _≡_ {A = ℕ} 0 1 = cc in absurd (omega arith)
 
--- the fields of a row's line, and the row that they are
-line-fields : (row : Row) → fields (lineText row) ≡ opName (row .op) ∷ map numberText (columnsOf row)
-unfolding lineText
-line-fields row = joined-fields (opName (row .op)) (columnsOf row) (name-above (row .op))
-
-fields-row : (q : ℕ) (row : Row) → q ≤ tenDigits → Printable q row
-    → rowOfFields q (opName (row .op) ∷ map numberText (columnsOf row)) ≡ Sound row
-unfolding rowOfFields columnsOf
-fields-row q row h p =
-    let digits : allBelow tenDigits (columnsOf row) ≡ true = allBelow-more q tenDigits (columnsOf row) h (p .small) in
-    simp (numerals-back (columnsOf row) digits, numbers-back (columnsOf row) digits, p .small, name-back (row .op) (p .named))
-
 -- a row's line holds at most 80 bytes
 pub line-length : (row : Row) → allBelow tenDigits (columnsOf row) ≡ true → length (lineText row) ≤ 73
 line-length row h =
     omega (arith, row-length row h, ap length (row-line row), length-append (lineText row) (feed ∷ []))
 
+-- a line of a name and numbers reads as them
+pub fields-back : (q : ℕ) (name ns : List ℕ) → q ≤ tenDigits → above comma name ≡ true → allBelow q ns ≡ true → length (joined name ns) ≤ 80
+    → fieldsOf q (suc (length ns)) (record { text = joined name ns; ended = true }) ≡ named name ns
+unfolding fieldsOf readable fitting longest
+fields-back q name ns h clear below short =
+    let digits : allBelow tenDigits ns ≡ true = allBelow-more q tenDigits ns h below in
+    simp (
+      le-leb (length (joined name ns)) 80 short,
+      joined-fields name ns clear,
+      eq-eqb (suc (length (map numberText ns))) (suc (length ns)) (ap suc (length-map ns numberText)),
+      numerals-back ns digits,
+      numbers-back ns digits,
+      below,
+    )
+
 -- a row's line reads as the row
 pub row-round-trip : (q : ℕ) (row : Row) → q ≤ tenDigits → Printable q row → parseRow q (lineOf row) ≡ Sound row
-unfolding parseRow fitting longest lineOf columnsOf
+unfolding parseRow rowRead rowWith lineOf lineText columnsOf
 row-round-trip q row h p =
     let digits : allBelow tenDigits (columnsOf row) ≡ true = allBelow-more q tenDigits (columnsOf row) h (p .small) in
-    let short : leb (length (lineText row)) 80 ≡ true = le-leb (length (lineText row)) 80 (omega (arith, line-length row digits)) in
-    simp (short, line-fields row, fields-row q row h p)
+    let read = fields-back q (opName (row .op)) (columnsOf row) h (name-above (row .op)) (p .small) (omega (arith, line-length row digits)) in
+    rw (read, name-back (row .op) (p .named))
 
 -- rows that lines can hold
 abbrev pub AllPrintable : ℕ → List Row → Type 0

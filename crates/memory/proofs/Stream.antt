@@ -6,7 +6,7 @@ use mathlib.Core.Bool.{Bool, true, false, cond}
 use mathlib.Core.Option.{Option, none, some}
 use mathlib.Core.List.{List, [], _∷_}
 use lib.Dec.{eqb, lit≤}
-use lib.ListN.{length, drop, getD}
+use lib.ListN.{length}
 use Rattle.memory.specs.declared.Memory.{Memory}
 use Rattle.memory.specs.declared.Parsed.the-variants.{Fault}
 use Rattle.memory.specs.declared.Challenge.{Challenge}
@@ -14,14 +14,15 @@ use Rattle.memory.specs.declared.Report.{Report}
 use Rattle.memory.specs.declared.Stand.{Stand}
 use Rattle.memory.specs.declared.State.{State}
 use Rattle.memory.specs.Text.{bytes}
-use Rattle.memory.specs.Bytes.{Line, longest, fitting, fields, numerals, numbers, allBelow, linesOf}
+use Rattle.memory.specs.Bytes.{Line, longest, linesOf}
 use Rattle.memory.specs.Names.{valueNames, rowNames, memoryNamed}
-use Rattle.memory.specs.Rows.{parseRow}
-use Rattle.memory.specs.File.{Opening, opens, shut, refused, parseRows, valuesFault, valuesReport, openedBy, openingOfFields, parseValues, namesFault, namesReport, openingReport, linesReport, fileReport}
+use Rattle.memory.specs.Rows.{rowFields, rowRead, parseRow}
+use Rattle.memory.specs.File.{Opening, opens, shut, refused, parseRows, valuesFault, valuesReport, valueFields, openedBy, valuesRead, parseValues, namesFault, namesReport, openingReport, linesReport, fileReport}
 use Rattle.memory.specs.Step.{takesRows, refuseAt, rowOf, runOf, reportOf, freshContext, freshOf, refusedState, openedOf}
 use Rattle.memory.specs.Pieces.{cut}
 use Rattle.memory.specs.Stream.{stand, namesRead, rowNamesRead, lineOf, endReport, unopened, unread, finishOf}
 use Rattle.memory.specs.Statements.{StreamIsFile}
+use Rattle.memory.proofs.ReadFields.{read-fields, long-fields}
 use Rattle.memory.proofs.Fold.{run-is-file, fixed-state}
 use Rattle.memory.proofs.Pieces.{lineWith, cut-reads, cut-names, linesIn, pieces-are-lines}
 
@@ -36,12 +37,12 @@ row-names-fit = lit≤ tt
 
 -- a row line and a value line of more than 80 bytes are 2, whatever their bytes
 cut-row : (q : ℕ) (text : List ℕ) (ended : Bool) → parseRow q (lineWith (cut text) ended) ≡ parseRow q (lineWith text ended)
-unfolding parseRow fitting
-cut-row q text ended = cut-reads (parseRow q) (Fault 2) (λ t e l. rw l refl) text ended
+unfolding parseRow rowRead
+cut-row q text ended = cut-reads (parseRow q) (Fault 2) (λ t e long. ap rowRead (long-fields q rowFields (lineWith t e) long)) text ended
 
 cut-values : (q : ℕ) (text : List ℕ) (ended : Bool) → parseValues q (lineWith (cut text) ended) ≡ parseValues q (lineWith text ended)
-unfolding parseValues fitting
-cut-values q text ended = cut-reads (parseValues q) (shut 2) (λ t e l. rw l refl) text ended
+unfolding parseValues valuesRead
+cut-values q text ended = cut-reads (parseValues q) (shut 2) (λ t e long. ap valuesRead (long-fields q valueFields (lineWith t e) long)) text ended
 
 -- a line is read from what is kept of it
 pub cut-line : (q : ℕ) (v : Stand) (text : List ℕ) (ended : Bool) → lineOf q v (lineWith (cut text) ended) ≡ lineOf q v (lineWith text ended)
@@ -90,26 +91,16 @@ abbrev Shuts : Opening → Type 0
 Shuts (opens m n t ch) = Unit
 Shuts (shut f) = eqb f 0 ≡ false
 
--- a choice of two, a memory's name, and a whole value line
-shuts-cond : (b : Bool) (x y : Opening) → Shuts x → Shuts y → Shuts (cond b x y)
-shuts-cond true x y h k = h
-shuts-cond false x y h k = k
-
+-- a memory's name, and a whole value line
 shuts-opened : (m : Option Memory) (ns : List ℕ) → Shuts (openedBy m ns)
 unfolding openedBy
 shuts-opened none ns = refl
 shuts-opened (some m) ns = tt
 
 values-shut : (q : ℕ) (line : Line) → Shuts (parseValues q line)
-unfolding parseValues openingOfFields
+unfolding parseValues valuesRead
 values-shut q line =
-    shuts-cond (fitting line) _ _
-    (shuts-cond (eqb (length (fields (line .text))) 7) _ _
-    (shuts-cond (numerals (drop 1 fs)) _ _
-    (shuts-cond (allBelow q (numbers (drop 1 fs))) _ _ (shuts-opened (memoryNamed (getD fs 0 [])) (numbers (drop 1 fs))) refl) refl) refl) refl
-  where
-    fs : List (List ℕ)
-    fs = fields (line .text)
+    read-fields (λ x. Shuts (valuesRead x)) q valueFields refl refl (λ name ns many below. shuts-opened (memoryNamed name) ns) line
 
 -- a fresh state takes rows unless its values have a fault, and then it is printed so
 fresh-takes : (q : ℕ) (m : Memory) (n t : ℕ) (ch : Challenge) → takesRows (freshOf q m n t ch .context) ≡ eqb (valuesFault q m n t ch) 0

@@ -4,7 +4,7 @@ use Prim.Native.Nat.{ℕ, _+_, _-_, _*_}
 use mathlib.Core.Bool.{Bool, true, false, _&&_, _||_, not, cond}
 use mathlib.Core.List.{List, [], _∷_}
 use lib.Dec.{eqb, leb, ltb}
-use lib.ListN.{length, getD}
+use lib.ListN.{length, getD, drop}
 
 -- a line of a file: its bytes before the line feed, and whether the line feed is there
 pub record Line : Type 0 where
@@ -81,6 +81,25 @@ numbers (f ∷ fs) = decimalFrom 0 f ∷ numbers fs
 unfoldable pub allBelow : ℕ → List ℕ → Bool
 allBelow q [] = true
 allBelow q (x ∷ xs) = ltb x q && allBelow q xs
+
+-- What a line of a name and numbers reads as: the name and the numbers, or its fault 2 or 3
+pub data Fields : Type 0 where
+  named : List ℕ → List ℕ → Fields
+  noFields : ℕ → Fields
+
+-- whether a line has k fields: a name, and numbers. 2: "wrong number of fields, a number empty, over 10 digits, with a leading zero (0 itself is fine) or not digits,
+-- line too long or without line feed"
+unfoldable pub readable : ℕ → Line → Bool
+readable k line =
+    let fs = fields (line .text) in
+    fitting line && (eqb (length fs) k && numerals (drop 1 fs))
+
+-- what a line reads as that is to have k fields. "on one line, table order": 2 before 3, "a number is p or more"
+unfoldable pub fieldsOf : ℕ → ℕ → Line → Fields
+fieldsOf q k line =
+    let fs = fields (line .text) in
+    let ns = numbers (drop 1 fs) in
+    cond (readable k line) (cond (allBelow q ns) (named (getD fs 0 []) ns) (noFields 3)) (noFields 2)
 
 -- the lines of a file: each is ended by a line feed, but for a last one that the file breaks off
 unfoldable pub before : ℕ → List Line → List Line

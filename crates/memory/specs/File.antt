@@ -5,7 +5,7 @@ use mathlib.Core.Bool.{cond}
 use mathlib.Core.Option.{Option, none, some}
 use mathlib.Core.List.{List, [], _∷_, _++_, map}
 use lib.Dec.{eqb, ltb}
-use lib.ListN.{length, getD, drop}
+use lib.ListN.{length, getD}
 use Rattle.memory.specs.declared.Memory.{Memory}
 use Rattle.memory.specs.declared.Op.the-variants.{Other}
 use Rattle.memory.specs.declared.Row.{Row}
@@ -13,7 +13,7 @@ use Rattle.memory.specs.declared.Parsed.{Parsed}
 use Rattle.memory.specs.declared.Parsed.the-variants.{Sound, Fault}
 use Rattle.memory.specs.declared.Challenge.{Challenge}
 use Rattle.memory.specs.declared.Report.{Report}
-use Rattle.memory.specs.Bytes.{Line, fitting, fields, numerals, numbers, allBelow, same, linesOf}
+use Rattle.memory.specs.Bytes.{Line, allBelow, same, Fields, named, noFields, fieldsOf, linesOf}
 use Rattle.memory.specs.Names.{valueNames, rowNames, memoryNamed}
 use Rattle.memory.specs.Rows.{allowed, dueAfter, parseRow, lineFault}
 use Rattle.memory.specs.Equations.{fileLists, rangeBalances, memoryBalances}
@@ -97,26 +97,24 @@ pub data Opening : Type 0 where
   opens : Memory → ℕ → ℕ → Challenge → Opening
   shut : ℕ → Opening
 
+-- the fields of a value line: `memory,size,count,r,a,b,c`
+abbrev pub valueFields : ℕ
+valueFields = 7
+
+-- the memory, and the numbers that follow it in these fields
 unfoldable pub openedBy : Option Memory → List ℕ → Opening
 openedBy none ns = shut 4
 openedBy (some m) ns =
     opens m (getD ns 0 0) (getD ns 1 0) (record { r = getD ns 2 0; a = getD ns 3 0; b = getD ns 4 0; c = getD ns 5 0 })
 
--- 2 before 3 before 4; an unknown memory is 4. Of a known memory, size and count are tested with the values
-unfoldable pub openingOfFields : ℕ → List (List ℕ) → Opening
-openingOfFields q fs =
-    let ns = numbers (drop 1 fs) in
-    cond (numerals (drop 1 fs)) (cond (allBelow q ns) (openedBy (memoryNamed (getD fs 0 [])) ns) (shut 3)) (shut 2)
+-- what the fields of a value line stand for. 4: "unknown memory"; of a known one, size and count are tested with the values
+unfoldable pub valuesRead : Fields → Opening
+valuesRead (named name ns) = openedBy (memoryNamed name) ns
+valuesRead (noFields f) = shut f
 
--- the fields of a value line: `memory,size,count,r,a,b,c`
-abbrev pub valueFields : ℕ
-valueFields = 7
-
+-- what a value line reads as
 unfoldable pub parseValues : ℕ → Line → Opening
-parseValues q line =
-    cond (fitting line)
-    (cond (eqb (length (fields (line .text))) valueFields) (openingOfFields q (fields (line .text))) (shut 2))
-    (shut 2)
+parseValues q line = valuesRead (fieldsOf q valueFields line)
 
 -- the fault of a names line, or 0. 1: "line 1 or 3, without its line feed, is not the names line"; 2: "without line feed"
 unfoldable pub namesFault : List ℕ → Line → ℕ

@@ -5,10 +5,10 @@ use mathlib.Core.Bool.{Bool, _&&_, cond}
 use mathlib.Core.Option.{Option, none, some}
 use mathlib.Core.List.{List, [], _∷_, _++_, map}
 use lib.Dec.{eqb, leb, ltb}
-use lib.ListN.{length, getD, take, drop}
+use lib.ListN.{getD, take, drop}
 use Rattle.memory.specs.declared.Memory.{Memory}
 use Rattle.memory.specs.declared.Phase.the-variants.{Starting, Operating}
-use Rattle.memory.specs.Bytes.{Line, fitting, fields, numerals, numbers, allBelow, linesOf}
+use Rattle.memory.specs.Bytes.{Line, Fields, named, noFields, fieldsOf, linesOf}
 use Rattle.memory.specs.Names.{fillNames, inputNames, memoryNamed, opNamed}
 use Rattle.memory.specs.Rows.{allowed, opsDue}
 use Rattle.memory.specs.File.{headLines, firstLine, Refusal, refusal, namesFault}
@@ -28,48 +28,41 @@ pub data Job : Type 0 where
   job : Memory → ℕ → ℕ → Job
   noJob : ℕ → Job
 
-unfoldable pub jobOf : Option Memory → ℕ → ℕ → Job
-jobOf none n t = noJob 4
-jobOf (some m) n t = cond (fillAllowed m n t) (job m n t) (noJob 4)
-
-unfoldable pub jobOfFields : ℕ → List (List ℕ) → Job
-jobOfFields q fs =
-    let ns = numbers (drop 1 fs) in
-    cond (numerals (drop 1 fs)) (cond (allBelow q ns) (jobOf (memoryNamed (getD fs 0 [])) (getD ns 0 0) (getD ns 1 0)) (noJob 3)) (noJob 2)
-
 -- the fields of a value line: `memory,size,count`
 abbrev pub jobFields : ℕ
 jobFields = 3
 
+-- 4: "unknown memory, size or count not allowed"
+unfoldable pub jobOf : Option Memory → ℕ → ℕ → Job
+jobOf none n t = noJob 4
+jobOf (some m) n t = cond (fillAllowed m n t) (job m n t) (noJob 4)
+
+-- what the fields of a value line stand for
+unfoldable pub jobRead : Fields → Job
+jobRead (named name ns) = jobOf (memoryNamed name) (getD ns 0 0) (getD ns 1 0)
+jobRead (noFields f) = noJob f
+
+-- what a value line reads as
 unfoldable pub parseJob : ℕ → Line → Job
-parseJob q line =
-    cond (fitting line)
-    (cond (eqb (length (fields (line .text))) jobFields) (jobOfFields q (fields (line .text))) (noJob 2))
-    (noJob 2)
+parseJob q line = jobRead (fieldsOf q jobFields line)
 
 -- What a row line of the filler's input reads as: the row, or its fault 2 or 3
 pub data InputLine : Type 0 where
   sound : Input → InputLine
   faulty : ℕ → InputLine
 
-unfoldable pub inputOfFields : ℕ → List (List ℕ) → InputLine
-inputOfFields q fs =
-    let ns = numbers (drop 1 fs) in
-    cond (numerals (drop 1 fs))
-    (cond (allBelow q ns)
-    (sound (record { op = opNamed (getD fs 0 []); guard = getD ns 0 0; addr = getD ns 1 0; value = getD ns 2 0 }))
-    (faulty 3))
-    (faulty 2)
-
 -- the fields of a row line: `op,guard,addr,value`
 abbrev pub inputFields : ℕ
 inputFields = 4
 
+-- what the fields of a row line stand for
+unfoldable pub inputRead : Fields → InputLine
+inputRead (named name ns) = sound (record { op = opNamed name; guard = getD ns 0 0; addr = getD ns 1 0; value = getD ns 2 0 })
+inputRead (noFields f) = faulty f
+
+-- what a row line reads as
 unfoldable pub parseInput : ℕ → Line → InputLine
-parseInput q line =
-    cond (fitting line)
-    (cond (eqb (length (fields (line .text))) inputFields) (inputOfFields q (fields (line .text))) (faulty 2))
-    (faulty 2)
+parseInput q line = inputRead (fieldsOf q inputFields line)
 
 -- the row after k rows is an init row or an operation; its fault by its form, or 0
 unfoldable pub inputLineFault : ℕ → Memory → ℕ → ℕ → InputLine → ℕ

@@ -16,7 +16,7 @@ use Rattle.memory.specs.declared.Phase.the-variants.{Starting, Operating
 use Rattle.memory.specs.declared.Row.{Row}
 use Rattle.memory.specs.declared.Parsed.{Parsed}
 use Rattle.memory.specs.declared.Parsed.the-variants.{Sound, Fault}
-use Rattle.memory.specs.Bytes.{Line, fitting, fields, numerals, numbers, allBelow}
+use Rattle.memory.specs.Bytes.{Line, allBelow, Fields, named, noFields, fieldsOf}
 use Rattle.memory.specs.Names.{opNamed, isOp}
 
 -- "Size n is 0 to 65,536, and 0 for stack and queue. Count T is 0 to 65,536."
@@ -143,36 +143,31 @@ formed m row =
 unfoldable pub rowBelow : ℕ → Row → Bool
 rowBelow q row = allBelow q (row .guard ∷ row .addr ∷ row .value ∷ row .old ∷ row .time ∷ row .version ∷ [])
 
--- a row line with the right number of fields: 2 if a number is none, else 3 if one is q or more, else the row
-unfoldable pub rowOfFields : ℕ → List (List ℕ) → Parsed
-rowOfFields q fs =
-    let ns = numbers (drop 1 fs) in
-    cond (numerals (drop 1 fs))
-    (cond (allBelow q ns)
-    (Sound
-    (record {
-      op = opNamed (getD fs 0 []);
+-- the fields of a row line: `op,guard,addr,value,old,time,version`
+abbrev pub rowFields : ℕ
+rowFields = 7
+
+-- the row of an op and the numbers that follow it in these fields
+unfoldable pub rowWith : Op → List ℕ → Row
+rowWith o ns =
+    record {
+      op = o;
       guard = getD ns 0 0;
       addr = getD ns 1 0;
       value = getD ns 2 0;
       old = getD ns 3 0;
       time = getD ns 4 0;
       version = getD ns 5 0;
-    }))
-    (Fault 3))
-    (Fault 2)
+    }
 
--- the fields of a row line: `op,guard,addr,value,old,time,version`
-abbrev pub rowFields : ℕ
-rowFields = 7
+-- what the fields of a row line stand for: the row whose op has that name, or the line's fault
+unfoldable pub rowRead : Fields → Parsed
+rowRead (named name ns) = Sound (rowWith (opNamed name) ns)
+rowRead (noFields f) = Fault f
 
--- what a row line reads as. 2: "wrong number of fields, a number empty, over 10 digits, with a leading zero (0 itself is fine) or not digits, line too
--- long or without line feed"; 3: "a number is p or more"
+-- what a row line reads as
 unfoldable pub parseRow : ℕ → Line → Parsed
-parseRow q line =
-    cond (fitting line)
-    (cond (eqb (length (fields (line .text))) rowFields) (rowOfFields q (fields (line .text))) (Fault 2))
-    (Fault 2)
+parseRow q line = rowRead (fieldsOf q rowFields line)
 
 -- the queue's product: "Each dequeue multiplies a product by depth + 1 − guard, before depth falls by guard", after `up` executed enqueues and `down` executed dequeues
 unfoldable pub depthFactor : ℕ → ℕ → ℕ → Row → ℕ

@@ -7,12 +7,13 @@ use borrow.Author.Needs.{needs}
 use borrow.Author.Tests.{not-true, not-false}
 use Rattle.field.specs.Field.{p}
 use Rattle.memory.specs.Bytes.{allBelow}
-use Rattle.memory.specs.Rows.{parseRow}
+use Rattle.memory.specs.declared.Parsed.the-variants.{Fault}
+use Rattle.memory.specs.Rows.{rowWith, parseRow}
 use Rattle.lines.specs.Keys.{opKeyed}
-use Rattle.lines.specs.Walk.{splitOf}
+use Rattle.lines.specs.Walk.{taken, splitOf}
 use Rattle.lines.proofs.Keys.{Bytes}
 use Rattle.lines.proofs.Elements.{number-fits}
-use Rattle.lines.proofs.Parse.{onTaken, rowWith, row-taken}
+use Rattle.lines.proofs.Parse.{onTaken, rowOf, row-taken}
 use Rattle.lines.proofs.row_line.Statement.{statement}
 use Rattle.lines.proofs.row_line.Tie as tie
 
@@ -25,8 +26,8 @@ fields-read :
     (c : tie.After-known-told)
     → let s = c .before .before .before .before in
     let a = s .before .before .before .args in
-    rowWith (opKeyed (c .before .key .given .0 .0)) (s .split-line .last .1 .1 .0) ≡ parseRow p (record { text = a .text .now; ended = a .ended })
-unfolding onTaken splitOf
+    onTaken Fault rowOf opKeyed (taken (c .before .key .given .0 .0) (s .split-line .last .1 .1 .0)) ≡ parseRow p (record { text = a .text .now; ended = a .ended })
+unfolding splitOf
 fields-read c =
     let s = c .before .before .before .before in
     row-taken _ (bytes (s .before .before)) (ap (splitOf _) (sym (c .before .key .given .1)) ∙ s .split-line .ensures)
@@ -60,7 +61,7 @@ below-requires : tie.Need-below-requires
 below-requires c κs = search needs
 
 returns-2 : tie.Need-returns-2
-unfolding rowWith
+unfolding onTaken rowOf rowWith
 returns-2 c = rw (sym (c .before .below .ensures) ∙ not-true _ (c .if1 .taken)) at (fields-read (c .before .before .before))
 
 op-of-requires : tie.Need-op-of-requires
@@ -103,7 +104,7 @@ cast-t36 : tie.Need-cast-t36
 cast-t36 c = number-fits _ (below-all (c .before)) 5
 
 returns-3 : tie.Need-returns-3
-unfolding rowWith
+unfolding onTaken rowOf rowWith
 returns-3 c = rw (c .op-of .ensures) (rw (below-all (c .before)) at (fields-read (c .before .before .before .before)))
 
 pub row-line-spec : {M : Type 1} → statement M

@@ -7,14 +7,14 @@ use borrow.Author.Needs.{needs}
 use borrow.Author.Tests.{not-true, not-false}
 use Rattle.field.specs.Field.{p}
 use Rattle.memory.specs.Bytes.{allBelow}
-use Rattle.memory.specs.File.{openedBy, parseValues}
+use Rattle.memory.specs.File.{shut, openedBy, parseValues}
 use Rattle.lines.specs.declared.Known.the-variants.{Is}
 use Rattle.lines.specs.Keys.{memoryKeyed, knownOf}
-use Rattle.lines.specs.Walk.{splitOf}
+use Rattle.lines.specs.Walk.{taken, splitOf}
 use Rattle.lines.specs.Answers.{openingOf}
 use Rattle.lines.proofs.Keys.{Bytes}
 use Rattle.lines.proofs.Elements.{number-fits}
-use Rattle.lines.proofs.Parse.{onTaken, valuesWith, values-taken}
+use Rattle.lines.proofs.Parse.{onTaken, values-taken}
 use Rattle.lines.proofs.value_line.Statement.{statement}
 use Rattle.lines.proofs.value_line.Tie as tie
 
@@ -27,8 +27,8 @@ fields-read :
     (c : tie.After-known-told)
     → let s = c .before .before .before .before in
     let a = s .before .before .before .args in
-    valuesWith (memoryKeyed (c .before .key .given .0 .0)) (s .split-line .last .1 .1 .0) ≡ parseValues p (record { text = a .text .now; ended = a .ended })
-unfolding onTaken splitOf
+    onTaken shut openedBy memoryKeyed (taken (c .before .key .given .0 .0) (s .split-line .last .1 .1 .0)) ≡ parseValues p (record { text = a .text .now; ended = a .ended })
+unfolding splitOf
 fields-read c =
     let s = c .before .before .before .before in
     values-taken _ (bytes (s .before .before)) (ap (splitOf _) (sym (c .before .key .given .1)) ∙ s .split-line .ensures)
@@ -66,7 +66,7 @@ below-requires : tie.Need-below-requires
 below-requires c κs = search needs
 
 returns-2 : tie.Need-returns-2
-unfolding valuesWith openingOf
+unfolding onTaken openingOf
 returns-2 c = rw (sym (c .before .below .ensures) ∙ not-true _ (c .if1 .taken)) at (fields-read (c .before .before .before))
 
 memory-of-requires : tie.Need-memory-of-requires
@@ -79,7 +79,7 @@ enum-told-2 : tie.Need-enum-told-2
 enum-told-2 c = search needs
 
 returns-3 : tie.Need-returns-3
-unfolding valuesWith openingOf openedBy knownOf
+unfolding onTaken openingOf openedBy knownOf
 returns-3 c =
     let m = ap knownOf (sym (c .enum-told2 .given .1)) ∙ c .before .before .memory-of .ensures in
     rw (below-all (c .before .before .before), sym m) at (fields-read (c .before .before .before .before .before .before))
@@ -121,7 +121,7 @@ cast-t37 : tie.Need-cast-t37
 cast-t37 c = number-fits _ (below-all (c .before .before .before .before)) 5
 
 returns-4 : tie.Need-returns-4
-unfolding valuesWith openingOf openedBy knownOf
+unfolding onTaken openingOf openedBy knownOf
 returns-4 c =
     rw (below-all (c .before .before .before .before), sym (known c)) at (fields-read (c .before .before .before .before .before .before .before))
 

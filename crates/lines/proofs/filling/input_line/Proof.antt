@@ -7,9 +7,9 @@ use borrow.Author.Needs.{needs}
 use borrow.Author.Tests.{not-true, not-false}
 use Rattle.field.specs.Field.{p}
 use Rattle.memory.specs.Bytes.{allBelow}
-use Rattle.memory.specs.FillFile.{parseInput}
+use Rattle.memory.specs.FillFile.{faulty, parseInput}
 use Rattle.lines.specs.Keys.{opKeyed}
-use Rattle.lines.specs.Walk.{splitOf}
+use Rattle.lines.specs.Walk.{taken, splitOf}
 use Rattle.lines.specs.Answers.{givenOf}
 use Rattle.lines.proofs.Keys.{Bytes}
 use Rattle.lines.proofs.Elements.{number-fits}
@@ -26,8 +26,8 @@ fields-read :
     (c : tie.After-known-told)
     → let s = c .before .before .before .before in
     let a = s .before .before .before .args in
-    inputWith (opKeyed (c .before .key .given .0 .0)) (s .split-line .last .1 .1 .0) ≡ parseInput p (record { text = a .text .now; ended = a .ended })
-unfolding onTaken splitOf
+    onTaken faulty inputWith opKeyed (taken (c .before .key .given .0 .0) (s .split-line .last .1 .1 .0)) ≡ parseInput p (record { text = a .text .now; ended = a .ended })
+unfolding splitOf
 fields-read c =
     let s = c .before .before .before .before in
     input-taken _ (bytes (s .before .before)) (ap (splitOf _) (sym (c .before .key .given .1)) ∙ s .split-line .ensures)
@@ -61,7 +61,7 @@ below-requires : tie.Need-below-requires
 below-requires c κs = search needs
 
 returns-2 : tie.Need-returns-2
-unfolding inputWith givenOf
+unfolding onTaken inputWith givenOf
 returns-2 c = rw (sym (c .before .below .ensures) ∙ not-true _ (c .if1 .taken)) at (fields-read (c .before .before .before))
 
 op-of-requires : tie.Need-op-of-requires
@@ -86,7 +86,7 @@ cast-t24 : tie.Need-cast-t24
 cast-t24 c = number-fits _ (below-all (c .before)) 2
 
 returns-3 : tie.Need-returns-3
-unfolding inputWith givenOf
+unfolding onTaken inputWith givenOf
 returns-3 c = rw (c .op-of .ensures) (rw (below-all (c .before)) at (fields-read (c .before .before .before .before)))
 
 pub input-line-spec : {M : Type 1} → statement M

@@ -7,10 +7,10 @@ use borrow.Author.Needs.{needs}
 use borrow.Author.Tests.{not-true, not-false}
 use Rattle.field.specs.Field.{p}
 use Rattle.memory.specs.Bytes.{allBelow}
-use Rattle.memory.specs.FillFile.{jobOf, parseJob}
+use Rattle.memory.specs.FillFile.{noJob, jobOf, parseJob}
 use Rattle.lines.specs.declared.Known.the-variants.{Is}
 use Rattle.lines.specs.Keys.{memoryKeyed, knownOf}
-use Rattle.lines.specs.Walk.{splitOf}
+use Rattle.lines.specs.Walk.{taken, splitOf}
 use Rattle.lines.specs.Answers.{taskOf}
 use Rattle.lines.proofs.Keys.{Bytes}
 use Rattle.lines.proofs.Elements.{number-fits}
@@ -27,8 +27,8 @@ fields-read :
     (c : tie.After-known-told)
     → let s = c .before .before .before .before in
     let a = s .before .before .before .args in
-    jobWith (memoryKeyed (c .before .key .given .0 .0)) (s .split-line .last .1 .1 .0) ≡ parseJob p (record { text = a .text .now; ended = a .ended })
-unfolding onTaken splitOf
+    onTaken noJob jobWith memoryKeyed (taken (c .before .key .given .0 .0) (s .split-line .last .1 .1 .0)) ≡ parseJob p (record { text = a .text .now; ended = a .ended })
+unfolding splitOf
 fields-read c =
     let s = c .before .before .before .before in
     job-taken _ (bytes (s .before .before)) (ap (splitOf _) (sym (c .before .key .given .1)) ∙ s .split-line .ensures)
@@ -66,7 +66,7 @@ below-requires : tie.Need-below-requires
 below-requires c κs = search needs
 
 returns-2 : tie.Need-returns-2
-unfolding jobWith taskOf
+unfolding onTaken jobWith taskOf
 returns-2 c = rw (sym (c .before .below .ensures) ∙ not-true _ (c .if1 .taken)) at (fields-read (c .before .before .before))
 
 memory-of-requires : tie.Need-memory-of-requires
@@ -79,7 +79,7 @@ enum-told-2 : tie.Need-enum-told-2
 enum-told-2 c = search needs
 
 returns-3 : tie.Need-returns-3
-unfolding jobWith taskOf jobOf knownOf
+unfolding onTaken jobWith taskOf jobOf knownOf
 returns-3 c =
     let m = ap knownOf (sym (c .enum-told2 .given .1)) ∙ c .before .before .memory-of .ensures in
     rw (below-all (c .before .before .before), sym m) at (fields-read (c .before .before .before .before .before .before))
@@ -100,13 +100,13 @@ allowed-requires : tie.Need-allowed-requires
 allowed-requires c κs = search needs
 
 returns-4 : tie.Need-returns-4
-unfolding jobWith taskOf jobOf knownOf
+unfolding onTaken jobWith taskOf jobOf knownOf
 returns-4 c =
     let over = sym (c .before .allowed .ensures) ∙ not-true _ (c .if2 .taken) in
     rw (below-all (c .before .before .before .before .before .before), sym (known (c .before .before)), over) at (fields-read (c .before .before .before .before .before .before .before .before .before))
 
 returns-5 : tie.Need-returns-5
-unfolding jobWith taskOf jobOf knownOf
+unfolding onTaken jobWith taskOf jobOf knownOf
 returns-5 c =
     let fits = sym (c .before .allowed .ensures) ∙ not-false _ (c .if2 .left) in
     rw (below-all (c .before .before .before .before .before .before), sym (known (c .before .before)), fits) at (fields-read (c .before .before .before .before .before .before .before .before .before))
