@@ -124,7 +124,7 @@ readFrom zero text at = cond (eqb at (length text)) (some []) none
 readFrom (suc k) text at = readOn (numberFrom at (drop at text)) (λ next. readFrom k text next)
 
 -- the numbers of the fields after the first, where there are k of them and the first is empty
-unfoldable pub numbersOf : ℕ → List (List ℕ) → Option (List ℕ)
+unfoldable numbersOf : ℕ → List (List ℕ) → Option (List ℕ)
 numbersOf k fs =
     cond (isNil (getD fs 0 []) && (eqb (length fs) (suc k) && numerals (drop 1 fs))) (some (numbers (drop 1 fs))) none
 
@@ -230,7 +230,7 @@ module _ (k : ℕ) (text : List ℕ) (rest : (at : ℕ) → at ≤ length text �
       by false other = sym (numbers-astray (suc k) (getD text at 0) (drop (suc at) text) other)
 
 -- Reading is what the fields from there on say
-pub read-fields : (k : ℕ) (text : List ℕ) (at : ℕ) → at ≤ length text → readFrom k text at ≡ numbersOf k (fields (drop at text))
+read-fields : (k : ℕ) (text : List ℕ) (at : ℕ) → at ≤ length text → readFrom k text at ≡ numbersOf k (fields (drop at text))
 read-fields zero text at inside =
     ⊎-elim (λ e. rw e (read-end 0 text)) (λ before. read-surplus text at before) (eq-or-lt-of-le inside)
 read-fields (suc k) text at inside =
@@ -240,7 +240,7 @@ read-fields (suc k) text at inside =
     (eq-or-lt-of-le inside)
 
 -- the text after the first field has the other fields, after an empty one
-pub fields-past-first : (bs : List ℕ) → fields (drop (length (first bs)) bs) ≡ [] ∷ drop 1 (fields bs)
+fields-past-first : (bs : List ℕ) → fields (drop (length (first bs)) bs) ≡ [] ∷ drop 1 (fields bs)
 unfolding first fields onto
 fields-past-first [] = refl
 fields-past-first (b ∷ bs) = by (eqb b comma) refl (fields-past-first bs)
@@ -249,6 +249,26 @@ fields-past-first (b ∷ bs) = by (eqb b comma) refl (fields-past-first bs)
         → fields (drop (length (cond t [] (b ∷ first bs))) (b ∷ bs)) ≡ [] ∷ drop 1 (cond t ([] ∷ fields bs) (onto b (fields bs)))
     by true is rest = rw is
     by false other rest = rest ∙ rw (fields-first bs)
+
+-- what is read after the numbers vs
+unfoldable pub prepends : List ℕ → Option (List ℕ) → Option (List ℕ)
+prepends [] rest = rest
+prepends (v ∷ vs) rest = prepend v (prepends vs rest)
+
+prepends-more : (vs : List ℕ) (v : ℕ) (rest : Option (List ℕ)) → prepends vs (prepend v rest) ≡ prepends (vs ++ v ∷ []) rest
+unfolding prepends
+prepends-more [] v rest = refl
+prepends-more (w ∷ vs) v rest = ap (prepend w) (prepends-more vs v rest)
+
+prepends-none : (vs : List ℕ) → prepends vs none ≡ none
+unfolding prepends prepend
+prepends-none [] = refl
+prepends-none (v ∷ vs) = rw (prepends-none vs)
+
+prepends-some : (vs ws : List ℕ) → prepends vs (some ws) ≡ some (vs ++ ws)
+unfolding prepends prepend
+prepends-some [] ws = refl
+prepends-some (v ∷ vs) ws = rw (prepends-some vs ws)
 
 -- the numbers that are read after the name, with its key
 unfoldable takenWith : ℕ → Option (List ℕ) → Taken
@@ -260,26 +280,6 @@ unfolding takenWith
 taken-cond true key ns = refl
 taken-cond false key ns = refl
 
--- what is read after the numbers vs
-unfoldable pub prepends : List ℕ → Option (List ℕ) → Option (List ℕ)
-prepends [] rest = rest
-prepends (v ∷ vs) rest = prepend v (prepends vs rest)
-
-pub prepends-more : (vs : List ℕ) (v : ℕ) (rest : Option (List ℕ)) → prepends vs (prepend v rest) ≡ prepends (vs ++ v ∷ []) rest
-unfolding prepends
-prepends-more [] v rest = refl
-prepends-more (w ∷ vs) v rest = ap (prepend w) (prepends-more vs v rest)
-
-pub prepends-none : (vs : List ℕ) → prepends vs none ≡ none
-unfolding prepends prepend
-prepends-none [] = refl
-prepends-none (v ∷ vs) = rw (prepends-none vs)
-
-pub prepends-some : (vs ws : List ℕ) → prepends vs (some ws) ≡ some (vs ++ ws)
-unfolding prepends prepend
-prepends-some [] ws = refl
-prepends-some (v ∷ vs) ws = rw (prepends-some vs ws)
-
 -- are what the line is taken apart to, if it fits
 line-is :
     (total : ℕ) (text : List ℕ) (ended : Bool) (read : Option (List ℕ))
@@ -287,8 +287,14 @@ line-is :
     → takenWith (keyOf (first text)) read ≡ lineTaken total (record { text = text; ended = ended })
 unfolding lineTaken readable fitting longest numbersOf
 line-is total text ended read fits is reads =
-    let after = fields-past-first text in
-    rw (sym reads, read-fields total text (length (first text)) (first-within text), after, le-leb (length text) 80 fits, is, fields-first text)
+    rw (
+      sym reads,
+      read-fields total text (length (first text)) (first-within text),
+      fields-past-first text,
+      le-leb (length text) 80 fits,
+      is,
+      fields-first text,
+    )
     (sym
     (taken-cond
     (eqb (suc (length (drop 1 (fields text)))) (suc total) && numerals (drop 1 (fields text)))
