@@ -20,7 +20,7 @@ use Rattle.memory.specs.declared.Op.the-variants.{Init, Access, Look, Member, P
 use Rattle.memory.specs.declared.Phase.the-variants.{Starting, Operating}
 use Rattle.memory.specs.Names.{opCode, isOp}
 use Rattle.memory.specs.Bytes.{allBelow}
-use Rattle.memory.specs.Rows.{opsDue, opIn, formed, used, columns, empty}
+use Rattle.memory.specs.Rows.{opsDue, opIn, formed, used, columns, usedOrZero}
 use Rattle.memory.specs.Honest.{Input, bare, filledRow}
 use Rattle.memory.specs.Filler.{opCoded, inputFault}
 use Rattle.filler.specs.Scan.{initFault}
@@ -130,7 +130,7 @@ module _ (o g a v : ℕ) where
 
 -- an init row has the same fault in every memory: no other op is due
 pub init-any : (q : ℕ) (m : Memory) (i : Input) → inputFault q m (opsDue m Starting) i ≡ initFault q i
-unfolding initFault inputFault opsDue opIn isOp opCode formed used columns empty bare filledRow
+unfolding initFault inputFault opsDue opIn isOp opCode formed used columns usedOrZero bare filledRow
 init-any q m i = go (i .op) (i .guard) (i .addr) (i .value)
   where
     go : (o : Op) (g a v : ℕ) → inputFault q m (Init ∷ []) (record { op = o; guard = g; addr = a; value = v }) ≡ initFault q (record { op = o; guard = g; addr = a; value = v })

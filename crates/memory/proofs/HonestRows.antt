@@ -21,7 +21,7 @@ use Rattle.memory.specs.declared.Row.{Row}
 use Rattle.memory.specs.declared.Parsed.the-variants.{Sound}
 use Rattle.memory.specs.Bytes.{Line, allBelow}
 use Rattle.memory.specs.Names.{opCode, isOp}
-use Rattle.memory.specs.Rows.{allowed, raised, lowered, endsDue, rangesDue, opsDue, opIn, columns, used, empty, formed, depthProduct, sunk}
+use Rattle.memory.specs.Rows.{allowed, raised, lowered, endsDue, rangesDue, opsDue, opIn, columns, used, usedOrZero, formed, depthProduct, sunk}
 use Rattle.memory.specs.Equations.{listsOf, fileLists}
 use Rattle.memory.specs.Plain.{Trace, Operation, start, allFit, right, operationOf, traceOf}
 use Rattle.memory.specs.Honest.{Input, inputOf, filledRow, bare, endRow, rangeRow, rangeRowsFrom, Cell, ramRow, ramEnds, romEndsFrom, setEndsFrom, stackEnds, operationsFilled, filledRows, possible}
@@ -142,17 +142,17 @@ Formed m i o t v = formed m (bare i) ≡ true → formed m (filledRow i o t v) �
 
 -- an access uses every column
 access-formed : (i : Input) (o t v : ℕ) → Formed Ram (inputOp Access i) o t v
-unfolding inputOp formed used columns empty bare filledRow
+unfolding inputOp formed used columns usedOrZero bare filledRow
 access-formed i o t v h = h
 
 -- a look uses old and version
 look-formed : (i : Input) (o v : ℕ) → Formed Rom (inputOp Look i) o 0 v
-unfolding inputOp formed used columns empty bare filledRow
+unfolding inputOp formed used columns usedOrZero bare filledRow
 look-formed i o v h = h
 
 -- a member uses version
 member-formed : (i : Input) (v : ℕ) → Formed Set (inputOp Member i) 0 0 v
-unfolding inputOp formed used columns empty bare filledRow
+unfolding inputOp formed used columns usedOrZero bare filledRow
 member-formed i v h = h
 
 -- the op of a memory with one op for its operations
@@ -182,7 +182,7 @@ set-due q keys (i ∷ is) due = (filled-due q Set Member i _ _ _ refl (member-fo
 -- a push of a stack has no advice, a pop uses old, time and version
 stack-formed : (cells : List Cell) (clock : ℕ) (ages : List ℕ) (i : Input) → opIn (i .op) (Push ∷ Pop ∷ []) ≡ true → leb (i .guard) 1 ≡ true
     → formed Stack (bare i) ≡ true → formed Stack (stackRow cells clock ages i) ≡ true
-unfolding inputAt formed used columns empty bare filledRow stackRow isOp opCode
+unfolding inputAt formed used columns usedOrZero bare filledRow stackRow isOp opCode
 stack-formed cells clock ages i =
     input-cases (λ (j : Input). formed Stack (bare j) ≡ true → formed Stack (stackRow cells clock ages j) ≡ true) Push Pop i (λ h. h) (λ h. h) (λ h. h) (λ h. h)
 
@@ -196,7 +196,7 @@ stack-due q cells clock ages (i ∷ is) due =
 -- an enqueue has no advice, a dequeue uses old
 queue-formed : (content : List ℕ) (i : Input) → opIn (i .op) (Enqueue ∷ Dequeue ∷ []) ≡ true → leb (i .guard) 1 ≡ true
     → formed Queue (bare i) ≡ true → formed Queue (queueRow content i) ≡ true
-unfolding inputAt formed used columns empty bare filledRow queueRow isOp opCode
+unfolding inputAt formed used columns usedOrZero bare filledRow queueRow isOp opCode
 queue-formed content i =
     input-cases (λ (j : Input). formed Queue (bare j) ≡ true → formed Queue (queueRow content j) ≡ true) Enqueue Dequeue i (λ h. h) (λ h. h) (λ h. h) (λ h. h)
 
@@ -220,22 +220,22 @@ due-append m p [] ys dx dy = dy
 due-append m p (x ∷ xs) ys dx dy = (dx .0, due-append m p xs ys (dx .1) dy)
 
 ram-ends-due : (cells : List Cell) → DueRows Ram Ending (ramEnds cells)
-unfolding ramEnds endRow opsDue opIn isOp opCode formed used columns empty
+unfolding ramEnds endRow opsDue opIn isOp opCode formed used columns usedOrZero
 ram-ends-due [] = tt
 ram-ends-due (c ∷ cells) = ((refl, refl), ram-ends-due cells)
 
 rom-ends-due : (k : ℕ) (values keys : List ℕ) → DueRows Rom Ending (romEndsFrom k values keys)
-unfolding romEndsFrom endRow opsDue opIn isOp opCode formed used columns empty
+unfolding romEndsFrom endRow opsDue opIn isOp opCode formed used columns usedOrZero
 rom-ends-due k [] keys = tt
 rom-ends-due k (v ∷ values) keys = ((refl, refl), rom-ends-due (suc k) values keys)
 
 set-ends-due : (earlier values keys : List ℕ) → DueRows Set Ending (setEndsFrom earlier values keys)
-unfolding setEndsFrom endRow opsDue opIn isOp opCode formed used columns empty
+unfolding setEndsFrom endRow opsDue opIn isOp opCode formed used columns usedOrZero
 set-ends-due earlier [] keys = tt
 set-ends-due earlier (v ∷ values) keys = ((refl, refl), set-ends-due (v ∷ earlier) values keys)
 
 cell-end-due : (c : Cell) → DueRow Stack Ending (endRow 0 (c .content) (c .time) 0)
-unfolding endRow opsDue opIn isOp opCode formed used columns empty
+unfolding endRow opsDue opIn isOp opCode formed used columns usedOrZero
 cell-end-due c = (refl, refl)
 
 stack-ends-rows-due : (cells : List Cell) → DueRows Stack Ending (stackEnds cells)
@@ -245,7 +245,7 @@ stack-ends-rows-due (c ∷ cells) =
     due-append Stack Ending (stackEnds cells) (endRow 0 (c .content) (c .time) 0 ∷ []) (stack-ends-rows-due cells) (cell-end-due c, tt)
 
 queue-ends-rows-due : (content : List ℕ) → DueRows Queue Ending (queueEnds content)
-unfolding queueEnds endRow opsDue opIn isOp opCode formed used columns empty
+unfolding queueEnds endRow opsDue opIn isOp opCode formed used columns usedOrZero
 queue-ends-rows-due [] = tt
 queue-ends-rows-due (v ∷ content) = ((refl, refl), queue-ends-rows-due content)
 
@@ -259,7 +259,7 @@ honest-ends-due Queue values ops = queue-ends-rows-due _
 
 -- the range rows
 range-rows-due : (m : Memory) (i t : ℕ) (ages : List ℕ) → DueRows m Ranging (rangeRowsFrom i t ages)
-unfolding rangeRowsFrom rangeRow opsDue opIn isOp opCode formed used columns empty
+unfolding rangeRowsFrom rangeRow opsDue opIn isOp opCode formed used columns usedOrZero
 range-rows-due m i zero ages = tt
 range-rows-due m i (suc t) ages = ((refl, refl), range-rows-due m (suc i) t ages)
 
@@ -322,18 +322,18 @@ filled-inputs q m n t inits ops prime room size count u =
     (ap (map inputOf) (parts-ops q m n t rows p) ∙ honest-inputs m (valuesOf inits) ops))
 
 -- The rows of a well-formed file, as the filler's input: each is due.
-zero-empty : (u : Bool) → empty u 0 ≡ true
-unfolding empty
-zero-empty u = or-true u
+zero-fits : (u : Bool) → usedOrZero u 0 ≡ true
+unfolding usedOrZero
+zero-fits u = or-true u
 
 -- a row has its form without its advice too
 bare-formed : (m : Memory) (row : Row) → formed m row ≡ true → formed m (bare (inputOf row)) ≡ true
 unfolding formed bare filledRow inputOf
 bare-formed m row h =
     let u = used m (row .op) in
-    let outer = both-pass (leb (row .guard) 1 && empty (u .guard) (row .guard)) _ h in
-    let inner = both-pass (empty (u .addr) (row .addr) && empty (u .value) (row .value)) _ (outer .1) in
-    ap₂ _&&_ (outer .0) (ap₂ _&&_ (inner .0) (ap₂ _&&_ (zero-empty (u .old)) (ap₂ _&&_ (zero-empty (u .time)) (zero-empty (u .version)))))
+    let outer = both-pass (leb (row .guard) 1 && usedOrZero (u .guard) (row .guard)) _ h in
+    let inner = both-pass (usedOrZero (u .addr) (row .addr) && usedOrZero (u .value) (row .value)) _ (outer .1) in
+    ap₂ _&&_ (outer .0) (ap₂ _&&_ (inner .0) (ap₂ _&&_ (zero-fits (u .old)) (ap₂ _&&_ (zero-fits (u .time)) (zero-fits (u .version)))))
 
 -- the numbers of a row that the filler takes are elements
 below-all : (q : ℕ) (row : Row) → RowBelow q row → allBelow q (row .guard ∷ row .addr ∷ row .value ∷ []) ≡ true

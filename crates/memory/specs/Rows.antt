@@ -128,16 +128,17 @@ used Queue End = columns false false false true false false
 used m Range = columns false false false false false true
 used m Other = columns false false false false false false
 
--- 6: "guard above 1, or an unused column not 0"
-unfoldable pub empty : Bool → ℕ → Bool
-empty used x = used || eqb x 0
+-- "Other columns hold 0."
+unfoldable pub usedOrZero : Bool → ℕ → Bool
+usedOrZero used x = used || eqb x 0
 
+-- whether a row does not meet 6: "guard above 1, or an unused column not 0"
 unfoldable pub formed : Memory → Row → Bool
 formed m row =
     let u = used m (row .op) in
-    (leb (row .guard) 1 && empty (u .guard) (row .guard))
-    && ((empty (u .addr) (row .addr) && empty (u .value) (row .value))
-    && (empty (u .old) (row .old) && (empty (u .time) (row .time) && empty (u .version) (row .version))))
+    (leb (row .guard) 1 && usedOrZero (u .guard) (row .guard))
+    && ((usedOrZero (u .addr) (row .addr) && usedOrZero (u .value) (row .value))
+    && (usedOrZero (u .old) (row .old) && (usedOrZero (u .time) (row .time) && usedOrZero (u .version) (row .version))))
 
 -- 3: "a number is p or more", of a row's six numbers
 unfoldable pub rowBelow : ℕ → Row → Bool

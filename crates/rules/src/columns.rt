@@ -3,7 +3,7 @@ use memory::Memory;
 use memory::Op;
 use memory::Row;
 ghost use mathlib.Core.Path.{_≡_};
-ghost use Rattle.memory.specs.Rows.{columns, used, empty, formed};
+ghost use Rattle.memory.specs.Rows.{columns, used, usedOrZero, formed};
 ghost use Rattle.rules.specs.Columns.{columnsOf};
 
 // The columns that a row may use.
@@ -56,7 +56,7 @@ fn of(memory: Memory, op: Op) -> Used
 
 // "Other columns hold 0."
 fn fits(used: bool, x: u32) -> bool
-    ensures { λ r. ⌜ r ≡ empty used x ⌝ }
+    ensures { λ r. ⌜ r ≡ usedOrZero used x ⌝ }
 {
     used | (x == 0)
 }

@@ -1,12 +1,12 @@
 -- `rules::columns::fits` meets its contract.
 -- Assumes nothing.
 use mathlib.Core.Path.{refl}
-use Rattle.memory.specs.Rows.{empty}
+use Rattle.memory.specs.Rows.{usedOrZero}
 use Rattle.rules.proofs.columns.fits.Statement.{statement}
 use Rattle.rules.proofs.columns.fits.Tie as tie
 
 returns : tie.Need-returns
-unfolding empty
+unfolding usedOrZero
 returns c = refl
 
 pub fits-spec : {M : Type 1} → statement M
