@@ -1,5 +1,4 @@
 // The end rows and range rows, once all operations are done.
-use super::rows;
 use super::steps::Cursor;
 use memory::Memory;
 ghost use mathlib.Core.List.{_++_};
@@ -22,7 +21,7 @@ fn cell_ends(w: usize, from: usize, count: usize, scratch: &[u32], out: &mut [u3
     let mut i = 0;
     while i < count {
         let at = from + i;
-        rows::put(i, END, 0, 0, 0, scratch[at], scratch[w + at], 0, out);
+        words::put(i, END, 0, 0, 0, scratch[at], scratch[w + at], 0, out);
         i += 1;
     }
 }
@@ -34,7 +33,7 @@ fn value_ends(n: usize, inits: &[u32], scratch: &[u32], out: &mut [u32])
 {
     let mut i = 0;
     while i < n {
-        rows::put(i, END, 0, 0, inits[4 * i + 3], 0, 0, scratch[n + i], out);
+        words::put(i, END, 0, 0, inits[4 * i + 3], 0, 0, scratch[n + i], out);
         i += 1;
     }
 }
@@ -46,7 +45,7 @@ fn range_rows(from: usize, count: usize, scratch: &[u32], out: &mut [u32])
 {
     let mut i = 0;
     while i < count {
-        rows::put(i, RANGE, 0, 0, 0, 0, 0, scratch[from + i], out);
+        words::put(i, RANGE, 0, 0, 0, 0, 0, scratch[from + i], out);
         i += 1;
     }
 }

@@ -5,7 +5,6 @@ use rules::sizes;
 
 mod ends;
 mod faults;
-mod rows;
 mod steps;
 mod write;
 
@@ -54,7 +53,7 @@ fn copy_inits(n: usize, inits: &[u32], out: &mut [u32])
 {
     let mut k = 0;
     while k < n {
-        rows::copy(k, inits, 0, 0, 0, out);
+        words::copy(k, inits, 0, 0, 0, out);
         k += 1;
     }
 }
@@ -80,7 +79,7 @@ fn write_rows(
     copy_inits(n, inits, out);
     let from = 7 * n;
     let more = write::rows_after(m, n, t, inits, ops, &mut out[from..], scratch);
-    rows::clear(scratch);
+    words::clear(scratch);
     n + more
 }
 
@@ -99,12 +98,12 @@ fn fill_rows(
     let from = 4 * n;
     let inits = &rows[..from];
     let ops = &rows[from..];
-    rows::clear(scratch);
+    words::clear(scratch);
     write::prepare(m, n, inits, scratch);
     let fault = faults::scan(m, n, t, inits, &scratch[..n], ops);
     if fault.number != 0 {
-        rows::clear(out);
-        rows::clear(scratch);
+        words::clear(out);
+        words::clear(scratch);
         return Filled::Refused(fault.number, fault.place);
     }
     Filled::Rows(write_rows(m, n, t, inits, ops, out, scratch))

@@ -2,7 +2,6 @@
 //
 // Of w cells the contents lie in the scratch words from 0 on, the times from w on, and the lookups of each age from 2w on, of age 1 first. A rom and
 // a set keep no cells: the lookups of each key lie from w on. A set keeps its search tree in the first w words.
-use super::rows;
 use memory::Memory;
 ghost use mathlib.Core.Bool.{cond};
 ghost use mathlib.Core.Path.{_≡_};
@@ -278,7 +277,7 @@ pub fn step(
     let addr = ops[from + 2];
     let value = ops[from + 3];
     let advice = advise(m, w, at, op, guard, addr, value, inits, scratch);
-    rows::copy(k, ops, advice.old, advice.time, advice.version, out);
+    words::copy(k, ops, advice.old, advice.time, advice.version, out);
     let next = advice.next;
     next
 }

@@ -11,7 +11,6 @@ use rules::inputs;
 use rules::ops;
 ghost use mathlib.Core.Path.{_≡_};
 ghost use Prim.Native.Nat.{_<_};
-ghost use lib.ListN.{set};
 ghost use Rattle.field.specs.Field.{p};
 ghost use Rattle.memory.specs.FillFile.{parseJob, inputLineFault};
 ghost use Rattle.memory.specs.FillStream.{gathered, refuseOn, namesTaken, jobTaken, rowsDue, refuseRow, inputTaken, rowTaken, lineTaken};
@@ -86,24 +85,15 @@ fn fault(intake: Intake, op: Op, guard: u32, addr: u32, value: u32) -> u32
     inputs::fault(memory, Phase::Operating, op, guard, addr, value)
 }
 
-// Writes a word where there is one.
-fn put(words: &mut [u32], at: usize, word: u32)
-    ensures { λ _. ⌜ now (words .exit) ≡ set (now (words .entry)) at word ⌝ }
-{
-    if at < words.len() {
-        words[at] = word;
-    }
-}
-
 // Writes row k.
-fn store(words: &mut [u32], k: u32, op: u32, guard: u32, addr: u32, value: u32)
+fn store_row(words: &mut [u32], k: u32, op: u32, guard: u32, addr: u32, value: u32)
     ensures { λ _. ⌜ now (words .exit) ≡ storedWords (now (words .entry)) k op guard addr value ⌝ }
 {
     let at = 4 * (k as usize);
-    put(words, at, op);
-    put(words, at + 1, guard);
-    put(words, at + 2, addr);
-    put(words, at + 3, value);
+    words::store(words, at, op);
+    words::store(words, at + 1, guard);
+    words::store(words, at + 2, addr);
+    words::store(words, at + 3, value);
 }
 
 // A row that is due: it is stored, or its fault is the refusal.
@@ -115,7 +105,7 @@ fn take(mut intake: Intake, op: Op, guard: u32, addr: u32, value: u32, words: &m
     if fault != 0 {
         return refuse_row(intake, fault);
     }
-    store(words, intake.passed, number, guard, addr, value);
+    store_row(words, intake.passed, number, guard, addr, value);
     intake.passed = counters::raise(intake.passed, 1);
     intake
 }

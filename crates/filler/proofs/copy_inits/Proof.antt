@@ -25,7 +25,7 @@ loop-holds : tie.Need-loop-holds Inv-loop μ-loop
 loop-holds c = (omega arith, refl, refl, record { place = 1; none = c .before .before .pre .1 })
 
 copy-requires : tie.Need-copy-requires Inv-loop μ-loop
-copy-requires c κs = record { read = omega arith; room = omega arith }
+copy-requires c κs = search needs
 
 add-k : tie.Need-add-k Inv-loop μ-loop
 add-k c = search needs

@@ -1,4 +1,4 @@
--- `filler::rows::clear` meets its contract. The invariant of its loop: the words passed are 0, and the others are as they were.
+-- `words::clear` meets its contract. The invariant of its loop: the words passed are 0, and the others are as they were.
 -- Assumes nothing.
 use mathlib.Core.Path.{_≡_, refl, ap, _∙_}
 use mathlib.Core.List.{List, _++_, append-nil}
@@ -8,8 +8,8 @@ use borrow.Author.Fill.{fill-none, fill-more}
 use borrow.Author.Needs.{needs}
 use lib.ListN.{length, set, drop, replicate, length-set}
 use lib.Seq.{drop-length}
-use Rattle.filler.proofs.rows.clear.Statement.{statement}
-use Rattle.filler.proofs.rows.clear.Tie as tie
+use Rattle.words.proofs.clear.Statement.{statement}
+use Rattle.words.proofs.clear.Tie as tie
 
 abbrev Inv-loop : tie.InvT-loop
 Inv-loop words₀ i₀ words i =

@@ -1,10 +1,10 @@
--- `fillfile::line::put` meets its contract.
+-- `words::store` meets its contract.
 -- Assumes nothing.
 use mathlib.Core.Path.{sym}
 use lib.Seq.{set-out}
 use borrow.Author.Needs.{needs}
-use Rattle.fillfile.proofs.line.put.Statement.{statement}
-use Rattle.fillfile.proofs.line.put.Tie as tie
+use Rattle.words.proofs.store.Statement.{statement}
+use Rattle.words.proofs.store.Tie as tie
 
 mul-words : tie.Need-mul-words
 mul-words c = search needs
@@ -21,5 +21,5 @@ returns c = search needs
 returns-2 : tie.Need-returns-2
 returns-2 c = sym (set-out _ _ _ (c .if1 .left))
 
-pub put-spec : {M : Type 1} → statement M
-put-spec = tie.close (tie.spec mul-words slice-write-words same-length returns returns-2)
+pub store-spec : {M : Type 1} → statement M
+store-spec = tie.close (tie.spec mul-words slice-write-words same-length returns returns-2)
