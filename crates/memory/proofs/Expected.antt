@@ -16,7 +16,7 @@ use Rattle.memory.specs.declared.Phase.the-variants.{Starting, Operating
 use Rattle.memory.specs.declared.Row.{Row}
 use Rattle.memory.specs.Names.{opCode, isOp}
 use Rattle.memory.specs.Rows.{raiseBy, lowerBy, raised, lowered, endsDue, rangesDue, phaseAt, opsDue, opIn}
-use Rattle.memory.specs.Equations.{Lists, initWrites, lookRead, lookWrite, romEnds, setInit, memberRead, memberWrite, rangeSetup, rangeRead, rangeWrite, rangeEnds, accessRead, accessWrites, accessLookups, cellEnds, pushWrite, pushWrites, popRead, popReads, popLookup, popLookups, enqueues, dequeues, endOlds, shuffleLists}
+use Rattle.memory.specs.Equations.{Lists, initWrite, initWrites, lookRead, lookWrite, romEnd, romEnds, setInit, memberRead, memberWrite, rangeSet, rangeSetup, rangeRead, rangeWrite, rangeEnd, rangeEnds, accessRead, accessWrites, accessLookups, cellEnd, cellEnds, pushWrite, pushWrites, popRead, popReads, popLookup, popLookups, enqueues, dequeues, endOlds, shuffleLists}
 use Rattle.memory.specs.Step.{ramClock, endPlace, rangePlace, lookupsBy, writtenBy, readBy, suppliedBy, lookedBy, enqueuedBy, dequeuedBy}
 use Rattle.memory.proofs.Counted.{length-snoc, raised-snoc, lowered-snoc}
 use Rattle.memory.proofs.Due.{begins, spans, phase-in-span, op-of-one, op-of-two, op-of-none}
@@ -94,76 +94,104 @@ Continues q m n t ph k past row rows =
     (expected q m ph (suc k) (raised past + raiseBy (row .op) (row .guard)) (lowered past + lowerBy (row .op) (row .guard)) rows)
     ≡ expected q m ph k (raised past) (lowered past) (row ∷ rows)
 
+-- a row with another op in its place
+abbrev withOp : Row → Op → Row
+withOp row o =
+    record { op = o; guard = row .guard; addr = row .addr; value = row .value; old = row .old; time = row .time; version = row .version }
+
+-- what holds of a row with the op x holds of a row whose op is x
+of-op : (q : ℕ) (m : Memory) (n t : ℕ) (ph : Phase) (k : ℕ) (past : List Row) (row : Row) (rows : List Row) (x : Op) → row .op ≡ x
+    → Continues q m n t ph k past (withOp row x) rows → Continues q m n t ph k past row rows
+of-op q m n t ph k past row rows x o = subst (λ (y : Op). Continues q m n t ph k past (withOp row y) rows) (sym o)
+
 -- an init row
-continues-init : (q : ℕ) (m : Memory) (n t k : ℕ) (past : List Row) (row : Row) (rows : List Row) → row .op ≡ Init → length past ≡ k
-    → Continues q m n t Starting k past row rows
+continues-init : (q : ℕ) (m : Memory) (n t k : ℕ) (past : List Row) (row : Row) (rows : List Row) → length past ≡ k
+    → Continues q m n t Starting k past (withOp row Init) rows
 unfolding expected none join emits contextOf isOp opCode shuffleLists initWrites writtenBy readBy suppliedBy lookedBy lookupsBy enqueuedBy dequeuedBy popLookup
-continues-init q Ram n t k past row rows o e = rw (o, e)
-continues-init q Rom n t k past row rows o e = rw (o, e)
-continues-init q Set n t k past row rows o e = rw o
-continues-init q Stack n t k past row rows o e = rw o
-continues-init q Queue n t k past row rows o e = rw o
+continues-init q Ram n t k past row rows e = ap (λ (i : ℕ). shuffleLists (initWrite i row ∷ initWrites (suc k) rows) []) e
+continues-init q Rom n t k past row rows e = ap (λ (i : ℕ). shuffleLists (initWrite i row ∷ initWrites (suc k) rows) []) e
+continues-init q Set n t k past row rows e = refl
+continues-init q Stack n t k past row rows e = refl
+continues-init q Queue n t k past row rows e = refl
 
 -- an access of a ram, a look of a rom, a member of a set
-continues-access : (q n t k : ℕ) (past : List Row) (row : Row) (rows : List Row) → row .op ≡ Access → length past + 1 - n ≡ suc k
-    → Continues q Ram n t Operating k past row rows
+continues-access : (q n t k : ℕ) (past : List Row) (row : Row) (rows : List Row) → length past + 1 - n ≡ suc k
+    → Continues q Ram n t Operating k past (withOp row Access) rows
 unfolding expected join emits contextOf isOp opCode accessWrites accessLookups ramClock writtenBy readBy suppliedBy lookedBy lookupsBy enqueuedBy dequeuedBy
-continues-access q n t k past row rows o e = rw (o, e)
+continues-access q n t k past row rows e = rw e
 
-continues-look : (q n t k : ℕ) (past : List Row) (row : Row) (rows : List Row) → row .op ≡ Look → Continues q Rom n t Operating k past row rows
+continues-look : (q n t k : ℕ) (past : List Row) (row : Row) (rows : List Row) → Continues q Rom n t Operating k past (withOp row Look) rows
 unfolding expected join emits contextOf isOp opCode shuffleLists writtenBy readBy suppliedBy lookedBy lookupsBy enqueuedBy dequeuedBy popLookup
-continues-look q n t k past row rows o = rw o
+continues-look q n t k past row rows = refl
 
-continues-member : (q n t k : ℕ) (past : List Row) (row : Row) (rows : List Row) → row .op ≡ Member → Continues q Set n t Operating k past row rows
+continues-member : (q n t k : ℕ) (past : List Row) (row : Row) (rows : List Row) → Continues q Set n t Operating k past (withOp row Member) rows
 unfolding expected join emits contextOf isOp opCode shuffleLists writtenBy readBy suppliedBy lookedBy lookupsBy enqueuedBy dequeuedBy popLookup
-continues-member q n t k past row rows o = rw o
+continues-member q n t k past row rows = refl
 
 -- a push or pop of a stack, an enqueue or dequeue of a queue
 continues-stack : (q n t k : ℕ) (past : List Row) (row : Row) (rows : List Row) → opIn (row .op) (Push ∷ Pop ∷ []) ≡ true
     → Continues q Stack n t Operating k past row rows
 unfolding expected join emits contextOf isOp opCode pushWrite pushWrites popRead popReads popLookup popLookups writtenBy readBy suppliedBy lookedBy lookupsBy enqueuedBy dequeuedBy
 continues-stack q n t k past row rows o =
-    op-of-two (λ (x : Op). row .op ≡ x → Continues q Stack n t Operating k past row rows) (row .op) Push Pop o (λ e. rw e) (λ e. rw e) refl
+    op-of-two (λ (x : Op). Continues q Stack n t Operating k past (withOp row x) rows) (row .op) Push Pop o refl refl
 
 continues-queue : (q n t k : ℕ) (past : List Row) (row : Row) (rows : List Row) → opIn (row .op) (Enqueue ∷ Dequeue ∷ []) ≡ true
     → Continues q Queue n t Operating k past row rows
 unfolding expected join emits contextOf isOp opCode enqueues dequeues writtenBy readBy suppliedBy lookedBy lookupsBy enqueuedBy dequeuedBy popLookup
 continues-queue q n t k past row rows o =
-    op-of-two (λ (x : Op). row .op ≡ x → Continues q Queue n t Operating k past row rows) (row .op) Enqueue Dequeue o (λ e. rw e) (λ e. rw e) refl
+    op-of-two (λ (x : Op). Continues q Queue n t Operating k past (withOp row x) rows) (row .op) Enqueue Dequeue o refl refl
 
--- an end row and a range row
-continues-end : (q : ℕ) (m : Memory) (n t k : ℕ) (past : List Row) (row : Row) (rows : List Row) → row .op ≡ End → length past - (n + t) ≡ k
-    → Continues q m n t Ending k past row rows
+-- an end row
+continues-end : (q : ℕ) (m : Memory) (n t k : ℕ) (past : List Row) (row : Row) (rows : List Row) → length past - (n + t) ≡ k
+    → Continues q m n t Ending k past (withOp row End) rows
 unfolding expected join emits contextOf isOp opCode shuffleLists cellEnds romEnds endOlds endPlace writtenBy readBy suppliedBy lookedBy lookupsBy enqueuedBy dequeuedBy popLookup
-continues-end q Ram n t k past row rows o e = rw (o, e)
-continues-end q Rom n t k past row rows o e = rw (o, e)
-continues-end q Set n t k past row rows o e = rw o
-continues-end q Stack n t k past row rows o e = rw (o, e, add-one k)
-continues-end q Queue n t k past row rows o e = rw o
+continues-end q Ram n t k past row rows e = ap (λ (i : ℕ). shuffleLists [] (cellEnd i row ∷ cellEnds (suc k) rows)) e
+continues-end q Rom n t k past row rows e = ap (λ (i : ℕ). shuffleLists [] (romEnd i row ∷ romEnds (suc k) rows)) e
+continues-end q Set n t k past row rows e = refl
+continues-end q Stack n t k past row rows e =
+    ap (λ (i : ℕ). shuffleLists [] (cellEnd i row ∷ cellEnds (suc (suc k)) rows)) (ap (λ (i : ℕ). i + 1) e ∙ add-one k)
+continues-end q Queue n t k past row rows e = refl
 
-continues-range : (q : ℕ) (m : Memory) (n t k : ℕ) (past : List Row) (row : Row) (rows : List Row) → row .op ≡ Range
-    → length past - (n + t + endsDue m n (raised past) (lowered past)) ≡ k → Continues q m n t Ranging k past row rows
-unfolding expected join emits contextOf isOp opCode rangeSetup rangeEnds rangePlace writtenBy readBy suppliedBy lookedBy lookupsBy enqueuedBy dequeuedBy popLookup
-continues-range q Ram n t k past row rows o e = rw (o, e, add-one k)
-continues-range q Rom n t k past row rows o e = rw (o, e, add-one k)
-continues-range q Set n t k past row rows o e = rw (o, e, add-one k)
-continues-range q Stack n t k past row rows o e = rw (o, e, add-one k)
-continues-range q Queue n t k past row rows o e = rw (o, e, add-one k)
+-- a range row: the number i and its end, before those of the rows that follow
+ranged : ℕ → ℕ → Row → List Row → Lists
+ranged k i row rows = record {
+  written = [];
+  read = [];
+  supplied = rangeSet i ∷ rangeSetup (suc (suc k)) (length rows);
+  looked = rangeEnd i row ∷ rangeEnds (suc (suc k)) rows;
+  enqueued = [];
+  dequeued = [];
+}
+
+continues-range : (q : ℕ) (m : Memory) (n t k : ℕ) (past : List Row) (row : Row) (rows : List Row)
+    → length past - (n + t + endsDue m n (raised past) (lowered past)) + 1 ≡ suc k → Continues q m n t Ranging k past (withOp row Range) rows
+unfolding ranged expected join emits contextOf isOp opCode rangeSetup rangeEnds rangePlace writtenBy readBy suppliedBy lookedBy lookupsBy enqueuedBy dequeuedBy popLookup
+continues-range q Ram n t k past row rows e = ap (λ (i : ℕ). ranged k i row rows) e
+continues-range q Rom n t k past row rows e = ap (λ (i : ℕ). ranged k i row rows) e
+continues-range q Set n t k past row rows e = ap (λ (i : ℕ). ranged k i row rows) e
+continues-range q Stack n t k past row rows e = ap (λ (i : ℕ). ranged k i row rows) e
+continues-range q Queue n t k past row rows e = ap (λ (i : ℕ). ranged k i row rows) e
 
 -- every phase of every memory
 continues : (q : ℕ) (m : Memory) (n t e : ℕ) (ph : Phase) (k : ℕ) (past : List Row) (row : Row) (rows : List Row) → opIn (row .op) (opsDue m ph) ≡ true
     → length past ≡ begins n t e (rangesDue m t) ph + k → (n + t ≤ length past → endsDue m n (raised past) (lowered past) ≡ e)
     → Continues q m n t ph k past row rows
 unfolding opsDue begins
-continues q m n t e Starting k past row rows o l d = continues-init q m n t k past row rows (op-of-one _ Init o) (omega arith)
-continues q Ram n t e Operating k past row rows o l d = continues-access q n t k past row rows (op-of-one _ Access o) (omega arith)
-continues q Rom n t e Operating k past row rows o l d = continues-look q n t k past row rows (op-of-one _ Look o)
-continues q Set n t e Operating k past row rows o l d = continues-member q n t k past row rows (op-of-one _ Member o)
+continues q m n t e Starting k past row rows o l d =
+    of-op q m n t Starting k past row rows Init (op-of-one _ Init o) (continues-init q m n t k past row rows (omega arith))
+continues q Ram n t e Operating k past row rows o l d =
+    of-op q Ram n t Operating k past row rows Access (op-of-one _ Access o) (continues-access q n t k past row rows (omega arith))
+continues q Rom n t e Operating k past row rows o l d =
+    of-op q Rom n t Operating k past row rows Look (op-of-one _ Look o) (continues-look q n t k past row rows)
+continues q Set n t e Operating k past row rows o l d =
+    of-op q Set n t Operating k past row rows Member (op-of-one _ Member o) (continues-member q n t k past row rows)
 continues q Stack n t e Operating k past row rows o l d = continues-stack q n t k past row rows o
 continues q Queue n t e Operating k past row rows o l d = continues-queue q n t k past row rows o
-continues q m n t e Ending k past row rows o l d = continues-end q m n t k past row rows (op-of-one _ End o) (omega arith)
+continues q m n t e Ending k past row rows o l d =
+    of-op q m n t Ending k past row rows End (op-of-one _ End o) (continues-end q m n t k past row rows (omega arith))
 continues q m n t e Ranging k past row rows o l d =
-    continues-range q m n t k past row rows (op-of-one _ Range o) (omega (arith, d (omega arith)))
+    of-op q m n t Ranging k past row rows Range (op-of-one _ Range o)
+    (continues-range q m n t k past row rows (omega (arith, d (omega arith))))
 continues q m n t e Over k past row rows o l d = op-of-none _ o
 
 -- rows in their places within one phase emit the phase's lists
