@@ -2,7 +2,6 @@
 // values, of one word an element, finds it. The elements are values of init rows in a slice, 4 words a row.
 ghost use mathlib.Core.Path.{_≡_};
 ghost use Prim.Native.Nat.{_+_, _*_, _<_};
-ghost use lib.ListN.{getD};
 ghost use Rattle.index.specs.Values.{valuesIn};
 ghost use Rattle.index.specs.Tree.{Rows, sideOf, joined, childAt, stopOf, found, inserted, grown};
 
@@ -14,13 +13,6 @@ pub(crate) struct Stop {
 
 // Two nodes below this fit a word.
 const LIMIT: u32 = 65536;
-
-// A word of a slice, and 0 past its end.
-fn word(words: &[u32], at: usize) -> u32
-    ensures { λ r. ⌜ r ≡ getD (now (words .entry)) at 0 ⌝ }
-{
-    if at < words.len() { words[at] } else { 0 }
-}
 
 // The child in a word on the side that a key names.
 fn side(key: u32, word: u32) -> usize
@@ -49,7 +41,7 @@ fn join(key: u32, word: u32, node: usize) -> u32
 fn child(n: usize, links: &[u32], node: usize, key: u32) -> usize
     ensures { λ r. ⌜ r ≡ childAt n (now (links .entry)) node key ⌝ }
 {
-    let next = side(key, word(links, node));
+    let next = side(key, words::word(links, node));
     if next <= node {
         return 0;
     }
