@@ -1,12 +1,11 @@
 -- The number of a line that reads as no row.
 -- Assumes nothing.
 use Prim.Native.Nat.{ℕ}
-use mathlib.Core.Bool.{cond}
-use lib.Dec.{eqb}
 use Rattle.memory.specs.declared.Parsed.{Parsed}
 use Rattle.memory.specs.declared.Parsed.the-variants.{Sound, Fault}
+use Rattle.memory.specs.Rows.{unreadFault}
 
--- 3, and 2 for any other; 0 of a row
+-- the number of a fault, and 0 of a row
 unfoldable pub unreadOf : Parsed → ℕ
 unreadOf (Sound row) = 0
-unreadOf (Fault f) = cond (eqb f 3) 3 2
+unreadOf (Fault f) = unreadFault f

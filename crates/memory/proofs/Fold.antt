@@ -20,7 +20,7 @@ use Rattle.memory.specs.declared.Products.{Products}
 use Rattle.memory.specs.declared.State.{State}
 use Rattle.memory.specs.declared.Report.{Report}
 use Rattle.memory.specs.Bytes.{Line, allBelow}
-use Rattle.memory.specs.Rows.{allowed, raised, lowered, depthProduct, rowBelow, parseRow, dueAfter, rowFault, parsedFault, lineFault}
+use Rattle.memory.specs.Rows.{allowed, raised, lowered, depthProduct, rowBelow, parseRow, dueAfter, rowFault, unreadFault, parsedFault, lineFault}
 use Rattle.memory.specs.Gates.{inputsOf, multsOf}
 use Rattle.memory.specs.File.{parsedRow, rowsOf, parseRows, Refusal, refusal, firstFault, refused, accepted, balanceReport, rowsReport, valuesFault, valuesReport}
 use Rattle.memory.specs.Step.{raise, takesRows, due, refuseAt, refuseNext, refuseLast, passedRow, withContext, takeRow, takeParsed, stepOf, rowOf, accepting, endOf, reportOf, freshContext, freshProducts, freshOf, multiplied, stepsOf, runOf}
@@ -120,7 +120,7 @@ step-surplus q m n t ch rows x e = rw e
 
 step-fault-line : (q : ℕ) (m : Memory) (n t : ℕ) (ch : Challenge) (rows : List Row) (f : ℕ) → ltb (length rows) (dueAfter m n t rows) ≡ true
     → stepOf q (stateOf q m n t ch rows) (Fault f)
-    ≡ withContext (stateOf q m n t ch rows) (refuseNext (contextOf q m n t rows) (cond (eqb f 3) 3 2))
+    ≡ withContext (stateOf q m n t ch rows) (refuseNext (contextOf q m n t rows) (unreadFault f))
 unfolding stepOf stateOf contextOf takesRows due dueAfter takeParsed
 step-fault-line q m n t ch rows f e = rw e
 
@@ -145,7 +145,7 @@ unfolding lineFault
 line-surplus q m n t rows x e = rw e
 
 line-fault : (q : ℕ) (m : Memory) (n t : ℕ) (rows : List Row) (f : ℕ) → ltb (length rows) (dueAfter m n t rows) ≡ true
-    → lineFault q m n t rows (Fault f) ≡ cond (eqb f 3) 3 2
+    → lineFault q m n t rows (Fault f) ≡ unreadFault f
 unfolding lineFault parsedFault
 line-fault q m n t rows f e = rw e
 
@@ -232,7 +232,7 @@ fold-line q m n t ch rows x xs b rest = pick (ltb (length rows) (dueAfter m n t 
 
     pick : (d : Bool) → ltb (length rows) (dueAfter m n t rows) ≡ d → (y : Parsed) → Folds q m n t ch rows (y ∷ xs)
     pick false e y = refuses y 7 (step-surplus q m n t ch rows y e) (line-surplus q m n t rows y e) refl
-    pick true e (Fault f) = refuses (Fault f) (cond (eqb f 3) 3 2) (step-fault-line q m n t ch rows f e) (line-fault q m n t rows f e) (ne-eqb _ 0 (fault-not-zero f))
+    pick true e (Fault f) = refuses (Fault f) (unreadFault f) (step-fault-line q m n t ch rows f e) (line-fault q m n t rows f e) (ne-eqb _ 0 (fault-not-zero f))
     pick true e (Sound row) = take-row row e (rowBelow q row) refl (eqb (rowFault q m n t rows row) 0) refl
 
 -- every list of what lines can read as

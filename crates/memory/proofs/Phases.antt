@@ -24,7 +24,7 @@ use Rattle.memory.specs.declared.Parsed.{Parsed}
 use Rattle.memory.specs.declared.Parsed.the-variants.{Sound, Fault}
 use Rattle.memory.specs.Bytes.{Line}
 use Rattle.memory.specs.Names.{opCode, isOp}
-use Rattle.memory.specs.Rows.{raiseBy, lowerBy, raised, lowered, endsDue, rangesDue, phaseAt, opsDue, opIn, formed, rowBelow, depthFactor, depthProduct, sunk, dueAfter, phaseAfter, rowFault, parsedFault, lineFault}
+use Rattle.memory.specs.Rows.{raiseBy, lowerBy, raised, lowered, endsDue, rangesDue, phaseAt, opsDue, opIn, formed, rowBelow, depthFactor, depthProduct, sunk, dueAfter, phaseAfter, rowFault, unreadFault, parsedFault, lineFault}
 use Rattle.memory.specs.Equations.{listsOf, endRows, rangeRows, fileLists}
 use Rattle.memory.specs.File.{parsedRow, rowsOf, parseRows, Refusal, refusal, firstFault}
 use Rattle.memory.specs.Bound.{rowsIn}
@@ -606,7 +606,7 @@ no-fault-sound q m n t before [] e = refl
 no-fault-sound q m n t before (Sound row ∷ xs) e =
     ap {B = List Parsed} (λ l. Sound row ∷ l) (no-fault-sound q m n t (before ++ row ∷ []) xs (no-fault-step q m n t before (Sound row) xs e .1))
 no-fault-sound q m n t before (Fault f ∷ xs) e =
-    absurd (fault-not-zero f (unfold lineFault parsedFault in chosen-zero (ltb (length before) (dueAfter m n t before)) (cond (eqb f 3) 3 2) 7 (omega arith) (no-fault-step q m n t before (Fault f) xs e .0) .1))
+    absurd (fault-not-zero f (unfold lineFault parsedFault in chosen-zero (ltb (length before) (dueAfter m n t before)) (unreadFault f) 7 (omega arith) (no-fault-step q m n t before (Fault f) xs e .0) .1))
 
 -- the same of a list of lines
 pub lines-sound : (q : ℕ) (m : Memory) (n t : ℕ) (lines : List Line) → firstFault q m n t [] (parseRows q lines) .number ≡ 0

@@ -15,7 +15,7 @@ use Rattle.memory.specs.declared.Phase.the-variants.{Over}
 use Rattle.memory.specs.declared.Row.{Row}
 use Rattle.memory.specs.declared.Parsed.{Parsed}
 use Rattle.memory.specs.declared.Parsed.the-variants.{Sound, Fault}
-use Rattle.memory.specs.Rows.{raised, lowered, endsDue, rangesDue, phaseAt, opsDue, opIn, rowBelow, dueAfter, phaseAfter, rowFault, parsedFault, lineFault}
+use Rattle.memory.specs.Rows.{raised, lowered, endsDue, rangesDue, phaseAt, opsDue, opIn, rowBelow, dueAfter, phaseAfter, rowFault, unreadFault, parsedFault, lineFault}
 use Rattle.memory.specs.File.{parsedRow, rowsOf, Refusal, refusal, firstFault}
 use Rattle.memory.proofs.Counted.{length-snoc, raised-snoc, lowered-snoc}
 use Rattle.memory.proofs.Due.{Passes, due-op, quiet-after, op-of-none}
@@ -41,7 +41,7 @@ pub record Complete (q : ℕ) (m : Memory) (n t : ℕ) (past rows : List Row) : 
 passes-of-line : (q : ℕ) (m : Memory) (n t : ℕ) (past : List Row) (x : Parsed) → lineFault q m n t past x ≡ 0 → Passes q m n t past (parsedRow x)
 unfolding lineFault parsedFault parsedRow
 passes-of-line q m n t past (Fault f) e =
-    absurd (fault-not-zero f (chosen-zero (ltb (length past) (dueAfter m n t past)) (cond (eqb f 3) 3 2) 7 (omega arith) e .1))
+    absurd (fault-not-zero f (chosen-zero (ltb (length past) (dueAfter m n t past)) (unreadFault f) 7 (omega arith) e .1))
 passes-of-line q m n t past (Sound row) e =
     let here = chosen-zero (ltb (length past) (dueAfter m n t past)) (cond (rowBelow q row) (rowFault q m n t past row) 3) 7 (omega arith) e in
     record { due = here .0; fault = chosen-zero (rowBelow q row) (rowFault q m n t past row) 3 (omega arith) (here .1) .1 }

@@ -13,7 +13,7 @@ use Rattle.memory.specs.declared.Row.{Row}
 use Rattle.memory.specs.declared.Parsed.{Parsed}
 use Rattle.memory.specs.declared.Parsed.the-variants.{Sound, Fault}
 use Rattle.memory.specs.Bytes.{Line, allBelow, named}
-use Rattle.memory.specs.Rows.{rowBelow, rowFields, rowWith, rowRead, parseRow}
+use Rattle.memory.specs.Rows.{rowBelow, rowFields, rowWith, rowRead, parseRow, unreadFault}
 use Rattle.memory.specs.File.{noRow, parsedRow, rowsOf, parseRows}
 use Rattle.memory.proofs.ReadFields.{read-fields}
 
@@ -37,7 +37,7 @@ Numbered q (Sound row) = rowBelow q row ≡ true
 Numbered q (Fault f) = Unit {0}
 
 -- the fault of a line that reads as no row is not 0
-pub fault-not-zero : (f : ℕ) → _≢_ {A = ℕ} (cond (eqb f 3) 3 2) 0
+pub fault-not-zero : (f : ℕ) → _≢_ {A = ℕ} (unreadFault f) 0
 fault-not-zero f e = pick (eqb f 3) e
   where
     pick : (b : Bool) → _≡_ {A = ℕ} (cond b 3 2) 0 → ⊥

@@ -215,11 +215,14 @@ unfoldable pub rowFault : ℕ → Memory → ℕ → ℕ → List Row → Row �
 rowFault q m n t rows row =
     faultBy n t (length rows) (opIn (row .op) (opsDue m (phaseAfter m n t rows))) (formed m row) (sunk q m (rows ++ row ∷ []))
 
--- the fault of what a line reads as, "on one line, table order": a row with a number of q or more is 3, before 5 and 6; where a line reads as no row, its
--- fault is 3 or else 2
+-- the number of a line that reads as no row: 3, and 2 for any other fault
+abbrev pub unreadFault : ℕ → ℕ
+unreadFault f = cond (eqb f 3) 3 2
+
+-- the fault of what a line reads as, "on one line, table order": a row with a number of q or more is 3, before 5 and 6
 unfoldable pub parsedFault : ℕ → Memory → ℕ → ℕ → List Row → Parsed → ℕ
 parsedFault q m n t rows (Sound row) = cond (rowBelow q row) (rowFault q m n t rows row) 3
-parsedFault q m n t rows (Fault f) = cond (eqb f 3) 3 2
+parsedFault q m n t rows (Fault f) = unreadFault f
 
 -- the fault of a line after the rows that have passed, or 0: "a surplus line is 7 without being read"
 unfoldable pub lineFault : ℕ → Memory → ℕ → ℕ → List Row → Parsed → ℕ

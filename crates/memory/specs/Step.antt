@@ -22,7 +22,7 @@ use Rattle.memory.specs.declared.State.{State}
 use Rattle.memory.specs.declared.Report.{Report}
 use Rattle.memory.specs.Bytes.{Line}
 use Rattle.memory.specs.Names.{isOp}
-use Rattle.memory.specs.Rows.{raiseBy, lowerBy, endsDue, opsDue, opIn, formed, depthFactor, rowBelow, parseRow, sunkBy, dueBy, phaseBy, faultBy}
+use Rattle.memory.specs.Rows.{raiseBy, lowerBy, endsDue, opsDue, opIn, formed, depthFactor, rowBelow, parseRow, sunkBy, dueBy, phaseBy, faultBy, unreadFault}
 use Rattle.memory.specs.Equations.{Triple, Lookup, factor, initWrite, lookRead, lookWrite, romEnd, setInit, memberRead, memberWrite, rangeSet, rangeRead, rangeWrite, rangeEnd, accessRead, accessWrite, accessLookup, cellEnd, pushWrite, popRead, popLookup, enqueueElements, dequeueElements, endElement}
 use Rattle.memory.specs.Gates.{rowInputs, rowMults}
 use Rattle.memory.specs.File.{headLines, firstLine, refused, valuesFault, Opening, opens, shut}
@@ -201,10 +201,10 @@ takeRow q s row =
     cond (eqb (stepFault q (s .context) row) 0) (passedRow q s row)
     (withContext s (refuseNext (s .context) (stepFault q (s .context) row)))
 
--- what a line reads as: a row with a number of q or more is 3, and a fault that is not 3 is 2
+-- what a line reads as: a row with a number of q or more is 3
 unfoldable pub takeParsed : ℕ → State → Parsed → State
 takeParsed q s (Sound row) = cond (rowBelow q row) (takeRow q s row) (withContext s (refuseNext (s .context) 3))
-takeParsed q s (Fault f) = withContext s (refuseNext (s .context) (cond (eqb f 3) 3 2))
+takeParsed q s (Fault f) = withContext s (refuseNext (s .context) (unreadFault f))
 
 -- one row. "After a refusal or the end of file a state is fixed"; a surplus row is 7
 unfoldable pub stepOf : ℕ → State → Parsed → State
