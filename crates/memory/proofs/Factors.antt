@@ -18,15 +18,15 @@ use Rattle.memory.specs.declared.Phase.{Phase}
 use Rattle.memory.specs.declared.Phase.the-variants.{Starting, Operating, Ending, Ranging}
 use Rattle.memory.specs.declared.Row.{Row}
 use Rattle.memory.specs.Names.{opCode, isOp}
-use Rattle.memory.specs.Rows.{sized, raiseBy, lowerBy, endsDue, rangesDue, opsDue, opIn, columns, used}
+use Rattle.memory.specs.Rows.{limit, sized, allowed, raiseBy, lowerBy, endsDue, rangesDue, opsDue, opIn, columns, used}
 use Rattle.memory.specs.Equations.{Triple, Lookup, Lists, initWrites, lookRead, lookWrite, romEnds, setInit, memberRead, memberWrite, rangeSetup, rangeRead, rangeWrite, rangeEnds, accessRead, accessWrites, accessLookups, cellEnds, pushWrite, pushWrites, popRead, popReads, popLookup, popLookups, enqueueElements, enqueues, dequeueElements, dequeues, endElement, endOlds, shuffleLists, rangedLists, listsOf, fileLists}
 use Rattle.memory.specs.Gates.{costs, rowCosts, factorsOf, choicesOf, hashesOf, depthsOf, guarded, skippedWith, rowsWith}
 use Rattle.memory.specs.Bound.{rowsIn}
 use Rattle.memory.specs.Statements.{FactorsCounted, ChoicesCounted, HashesCounted, DepthsCounted}
 use Rattle.memory.proofs.Operations.{Ops, rowAt, row-cases, not-among}
+use Rattle.memory.proofs.ReadRows.{both-pass}
 use Rattle.memory.proofs.Phases.{DueRows, Parts, due-ops, parts-lists, lines-parts}
 use Rattle.memory.proofs.Gates.{tally, oneOf, parts-only, stack-tally, queue-tally}
-use Rattle.memory.proofs.Demand.{allowed-sized}
 
 -- factors and hash steps by op
 rowFactors : Memory → Op → ℕ
@@ -259,8 +259,8 @@ parts-factors q Queue n t rows h p = queue-factors q n t rows (eqb-true n 0 h) p
 
 -- Of a list of lines.
 pub factors-counted : FactorsCounted
-unfolding recordsIn
-factors-counted q m n t lines h e = parts-factors q m n t (rowsIn q lines) (allowed-sized m n t h .0) (lines-parts q m n t lines e)
+unfolding recordsIn allowed
+factors-counted q m n t lines h e = parts-factors q m n t (rowsIn q lines) (both-pass (sized m n) (leb t limit) h .0) (lines-parts q m n t lines e)
 
 -- The hash steps counted, of each memory.
 abbrev Hashed : ℕ → Memory → ℕ → ℕ → List Row → Type 0

@@ -1,6 +1,6 @@
 -- Every statement of this crate, as the fields of one record: a proof of it is a proof of each. (Promises: promises)
 -- Assumes nothing.
-use Rattle.memory.specs.Statements.{FoldIsFile, RunIsFile, FaultByForm, FixedState, EndedState, AcceptsExactlyWhen, GatesByFormula, FactorsCounted, ChoicesCounted, HashesCounted, DepthsCounted, DemandAt, DemandThree, HonestRows, RefusedNotRight, StreamIsFile, HonestFileAccepted, HonestRunAccepted, FillingAccepted, FillStreamIsText, TestedRowsLate, FillTextShort}
+use Rattle.memory.specs.Statements.{FoldIsFile, RunIsFile, FaultByForm, FixedState, EndedState, AcceptsExactlyWhen, GatesByFormula, FactorsCounted, ChoicesCounted, HashesCounted, DepthsCounted, StreamIsFile, FillStreamIsText, FillTextShort}
 use Rattle.memory.specs.Cases.{CasesHold, CountedChallenge, RamProducts}
 
 pub record Promises : Type 0 where
@@ -15,16 +15,8 @@ pub record Promises : Type 0 where
   pub choices : ChoicesCounted
   pub hashes : HashesCounted
   pub depths : DepthsCounted
-  pub demandAt : DemandAt
-  pub demandThree : DemandThree
-  pub honestRows : HonestRows
-  pub refusedNotRight : RefusedNotRight
   pub streamIsFile : StreamIsFile
-  pub honestFile : HonestFileAccepted
-  pub honestRun : HonestRunAccepted
-  pub filling : FillingAccepted
   pub fillText : FillStreamIsText
-  pub tested : TestedRowsLate
   pub short : FillTextShort
   pub cases : CasesHold
   pub counted : CountedChallenge

@@ -1,13 +1,11 @@
 -- What is shown of the definitions. proofs/ has a proof of each, under the name that the comment gives.
 -- Assumes nothing.
-use Prim.Native.Nat.{ℕ, _+_, _-_, _*_, _^_, _≤_, _<_}
+use Prim.Native.Nat.{ℕ, _+_, _-_, _*_, _≤_}
 use mathlib.Core.Path.{_≡_}
-use mathlib.Core.Logic.{_↔_, _⊎_}
+use mathlib.Core.Logic.{_↔_}
 use mathlib.Core.Bool.{true, false}
-use mathlib.Core.List.{List, [], _++_, map}
-use lib.ListN.{length, getD, take, drop}
-use Rattle.algebra.specs.Prime.{Prime}
-use Rattle.field.specs.Field.{p}
+use mathlib.Core.List.{List, []}
+use lib.ListN.{length}
 use Rattle.memory.specs.declared.Memory.{Memory}
 use Rattle.memory.specs.declared.Op.the-variants.{Push, Pop, Enqueue, Dequeue}
 use Rattle.memory.specs.declared.Row.{Row}
@@ -15,22 +13,17 @@ use Rattle.memory.specs.declared.Parsed.{Parsed}
 use Rattle.memory.specs.declared.Parsed.the-variants.{Sound}
 use Rattle.memory.specs.declared.Challenge.{Challenge}
 use Rattle.memory.specs.declared.State.{State}
-use Rattle.memory.specs.declared.Report.{Report}
-use Rattle.memory.specs.Bytes.{Line, linesOf}
-use Rattle.memory.specs.Rows.{allowed, raised, lowered, rangesDue, initRows, formed, rowBelow, lineFault}
+use Rattle.memory.specs.Bytes.{Line}
+use Rattle.memory.specs.Rows.{allowed, raised, lowered, rangesDue, formed, rowBelow, lineFault}
 use Rattle.memory.specs.Equations.{fileLists, rangeBalances, memoryBalances}
 use Rattle.memory.specs.Gates.{inputsOf, multsOf, factorsOf, choicesOf, hashesOf, depthsOf, guarded, skippedWith, rowsWith, inputsFormula, multsFormula, puts, takes}
-use Rattle.memory.specs.File.{headLines, firstFault, refusal, parseRows, valuesFault, valuesReport, fileReport}
-use Rattle.memory.specs.Plain.{right, traceOf}
-use Rattle.memory.specs.Honest.{Input, initInputs, operationInputs, filledRows, refilledRows}
+use Rattle.memory.specs.File.{firstFault, refusal, parseRows, valuesFault, valuesReport, fileReport}
 use Rattle.memory.specs.Step.{takesRows, stepOf, endOf, stepsOf, runOf, freshOf, reportOf}
-use Rattle.memory.specs.Filler.{rowsFault}
-use Rattle.memory.specs.Print.{rowsText, refusalText, filledText, headerText}
-use Rattle.memory.specs.FillFile.{job, parseJob, parseInput, inputsOfLines, fillLimit, inputsFault, fillText}
+use Rattle.memory.specs.FillFile.{fillLimit, fillText}
 use Rattle.memory.specs.Pieces.{bytesIn}
-use Rattle.memory.specs.FillStream.{lineTaken, unfilled, fillEnd, late}
+use Rattle.memory.specs.FillStream.{lineTaken, unfilled, fillEnd}
 use Rattle.memory.specs.Stream.{lineOf, unread, finishOf}
-use Rattle.memory.specs.Bound.{elements, accepts, challenges, malformed, degree, rowsIn, traceIn, Advised}
+use Rattle.memory.specs.Bound.{elements, accepts, rowsIn}
 
 -- "Rows then come one call at a time, refused ones included, and last the end of file": the value line's fresh state, advanced by any list of what lines can
 -- read as and then ended, answers what the whole-file definition says: answer, line, inputs, multiplications. (Fold: fold-is-file)
@@ -109,133 +102,15 @@ ChoicesCounted = (m : Memory) (rows : List Row) → choicesOf m rows ≡ guarded
 abbrev pub DepthsCounted : Type 0
 DepthsCounted = (m : Memory) (rows : List Row) → depthsOf m rows ≡ rowsWith Dequeue rows
 
--- Demand 3, for one list of rows: where they are incomplete or malformed, or meet 8, no challenge accepts them; else, where the trace is wrong, at most 2·m·p³ of
--- the p⁴ challenges do, whatever the advice; and where it is right and the advice is the filler's, all p⁴ do
-pub record Demand (q : ℕ) (m : Memory) (n t : ℕ) (lines : List Line) : Type 0 where
-  pub incomplete : malformed q m n t lines ≡ true → (ch : Challenge) → accepts q m n t lines ch ≡ false
-  -- 8: "the queue's depth product is 0, or the stack's depth is below 0"
-  pub depth : firstFault q m n t [] (parseRows q lines) .number ≡ 8 → (ch : Challenge) → accepts q m n t lines ch ≡ false
-  pub wrong :
-      malformed q m n t lines ≡ false → right (traceIn q m n t lines) ≡ false
-      → challenges q (accepts q m n t lines) ≤ 2 * degree m n t (rowsIn q lines) * q ^ 3
-  -- the same with half the bound
-  pub sharp :
-      malformed q m n t lines ≡ false → right (traceIn q m n t lines) ≡ false
-      → challenges q (accepts q m n t lines) ≤ degree m n t (rowsIn q lines) * q ^ 3
-  pub honest :
-      malformed q m n t lines ≡ false → right (traceIn q m n t lines) ≡ true → Advised q m n t (rowsIn q lines)
-      → (ch : Challenge) → elements q ch ≡ true → accepts q m n t lines ch ≡ true
-
--- the statement for any prime, of sizes and counts that it has room for (Demand: demand-at)
-abbrev pub DemandAt : Type 0
-DemandAt =
-    (q : ℕ) (m : Memory) (n t : ℕ) (lines : List Line) → Prime q → 2 * t ≤ q → t + 1 < q → n ≤ q → Demand q m n t lines
-
--- Demand 3, for every memory, size, count and list of rows. (Demand: demand-three)
-abbrev pub DemandThree : Type 0
-DemandThree = (m : Memory) (n t : ℕ) (lines : List Line) → Demand p m n t lines
-
--- The honest prover's rules, over the rows of a well-formed file. Where the trace is right, they refuse no row and give rows that are complete and well-formed, with
--- the same trace and the filler's advice. (HonestRows: honest-rows)
-pub record HonestRun (q : ℕ) (m : Memory) (n t : ℕ) (rows : List Row) : Type 0 where
-  pub fills : rowsFault q m (map (λ row. row .value) (initRows n rows)) 1 (initInputs n rows) (operationInputs n t rows) .number ≡ 0
-  pub complete :
-      firstFault q m n t [] (map Sound (refilledRows m n t rows)) ≡ refusal 0 0
-  pub trace : traceOf m n t (refilledRows m n t rows) ≡ traceOf m n t rows
-  -- their advice is the filler's
-  pub advised : allowed m n t ≡ true → Advised q m n t (refilledRows m n t rows)
-
-abbrev pub HonestRows : Type 0
-HonestRows =
-    (q : ℕ) (m : Memory) (n t : ℕ) (lines : List Line) → Prime q → t + 1 < q → n ≤ q → firstFault q m n t [] (parseRows q lines) .number ≡ 0
-    → right (traceIn q m n t lines) ≡ true → HonestRun q m n t (rowsIn q lines)
-
--- A run that the rules refuse is not right. (HonestRows: refused-not-right)
-abbrev pub RefusedNotRight : Type 0
-RefusedNotRight =
-    (q : ℕ) (m : Memory) (n t : ℕ) (lines : List Line) → 2 ≤ q → firstFault q m n t [] (parseRows q lines) .number ≡ 0
-    → let rows = rowsIn q lines in
-    (rowsFault q m (map (λ row. row .value) (initRows n rows)) 1 (initInputs n rows) (operationInputs n t rows) .number ≡ 0 → ⊥)
-    → right (traceOf m n t rows) ≡ false
-
 -- A file read byte by byte, up to its end, gives what `check` prints for it. (Stream: stream-is-file)
 abbrev pub StreamIsFile : Type 0
 StreamIsFile = (q : ℕ) (bytes : List ℕ) → 2 ≤ q → finishOf q (bytesIn (lineOf q) unread bytes) ≡ fileReport q bytes
-
--- What the filler writes is accepted. Init rows and operations that it fills: size and count are allowed, there are as many, and it refuses none of them
-pub record Fillable (m : Memory) (n t : ℕ) (inits ops : List Input) : Type 0 where
-  pub fit : allowed m n t ≡ true
-  pub size : length inits ≡ n
-  pub count : length ops ≡ t
-  pub unrefused : rowsFault p m (map (λ i. i .value) inits) 1 inits ops .number ≡ 0
-
--- the report of accepted rows: answer 0, line 0, and inputs and multiplications by document 01's table. Of complete and well-formed rows it is `accepted`, which
--- counts them, by GatesByFormula
-unfoldable pub acceptance : Memory → ℕ → ℕ → List Row → Report
-acceptance m n t rows = record {
-  answer = 0;
-  line = 0;
-  inputs = inputsFormula m n t (puts rows) (takes rows) (raised rows - lowered rows);
-  mults = multsFormula m n t (puts rows) (takes rows) (raised rows - lowered rows);
-}
-
--- The bytes that the filler writes, behind both lines of the header with any challenge, are a file that is accepted. (HonestFile: honest-file-accepted)
-abbrev pub HonestFileAccepted : Type 0
-HonestFileAccepted =
-    (m : Memory) (n t : ℕ) (inits ops : List Input) (ch : Challenge) → Fillable m n t inits ops
-    → elements p ch ≡ true
-    → let rows = filledRows m t inits ops in fileReport p (headerText m n t ch ++ filledText rows) ≡ acceptance m n t rows
-
--- The same of its rows handed one call at a time to a fresh state of any challenge. (HonestFile: honest-run-accepted)
-abbrev pub HonestRunAccepted : Type 0
-HonestRunAccepted =
-    (m : Memory) (n t : ℕ) (inits ops : List Input) (ch : Challenge) → Fillable m n t inits ops
-    → elements p ch ≡ true
-    → let rows = filledRows m t inits ops in
-    reportOf (endOf (runOf p (freshOf p m n t ch) (linesOf (rowsText rows)))) ≡ acceptance m n t rows
-
--- the numbers with which the filling program refuses: "1 to 7 by line, then 11 to 13"
-abbrev pub FillNumber : ℕ → Type 0
-FillNumber k = ((1 ≤ k) × (k ≤ 7)) ⊎ ((11 ≤ k) × (k ≤ 13))
-
--- The filling program, for any input: it prints a refusal,
-pub record FillRefused (bytes : List ℕ) : Type 0 where
-  pub number : ℕ
-  pub line : ℕ
-  pub fault : FillNumber number
-  pub printed : fillText p bytes ≡ refusalText number line
-
--- or the file from line 3 on, of the memory, size and count of its value line and of its rows; and behind the header with any challenge that is accepted
-pub record FillAccepted (bytes : List ℕ) : Type 0 where
-  pub memory : Memory
-  pub size : ℕ
-  pub count : ℕ
-  pub inits : List Input
-  pub ops : List Input
-  pub asked : parseJob p (getD (linesOf bytes) 1 (record { text = []; ended = false })) ≡ job memory size count
-  pub given : inputsOfLines (map (parseInput p) (drop headLines (linesOf bytes))) ≡ inits ++ ops
-  pub fillable : Fillable memory size count inits ops
-  pub printed : fillText p bytes ≡ filledText (filledRows memory count inits ops)
-  pub accepted :
-      (ch : Challenge) → elements p ch ≡ true
-      → fileReport p (headerText memory size count ch ++ fillText p bytes) ≡ acceptance memory size count (filledRows memory count inits ops)
-
--- (FilledFile: filling-accepted)
-abbrev pub FillingAccepted : Type 0
-FillingAccepted = (bytes : List ℕ) → FillRefused bytes ⊎ FillAccepted bytes
 
 -- The filling program's input read byte by byte, up to its end, with words for as many rows as may be due, gives what the program prints. (FillStream: fill-stream-is-text)
 abbrev pub FillStreamIsText : Type 0
 FillStreamIsText =
     (q : ℕ) (bytes words : List ℕ) → 4 * (fillLimit + fillLimit) ≤ length words
     → fillEnd q (bytesIn (lineTaken q) (unfilled words) bytes) ≡ fillText q bytes
-
--- "1 to 7 by line, then 11 to 13": rows that meet none of 1 to 7 meet none of 3, 5 and 6 in the filler's library. (FillTested: tested-rows-late)
-abbrev pub TestedRowsLate : Type 0
-TestedRowsLate =
-    (q : ℕ) (m : Memory) (n t : ℕ) (lines : List Line) → inputsFault q m n t 0 (map (parseInput q) lines) .number ≡ 0
-    → let rows = inputsOfLines (map (parseInput q) lines) in
-    late (rowsFault q m (map (λ i. i .value) (take n rows)) 1 (take n rows) (drop n rows) .number) ≡ true
 
 -- What the filling program prints has at most 85,797 bytes: a names line of 37, and 134 for each of 640 rows. (FillLength: fill-text-short)
 abbrev pub FillTextShort : Type 0

@@ -8,26 +8,26 @@ use mathlib.Core.List.{List, [], _∷_, _++_, map}
 use lib.Dec.{eqb, ltb}
 use lib.ListN.{length, getD, drop, set}
 use borrow.Author.Tests.{lt-ltb, leb-true, ltb-true}
 use Rattle.memory.specs.declared.Memory.{Memory}
 use Rattle.memory.specs.declared.Memory.the-variants.{Ram, Rom, Set, Stack, Queue}
 use Rattle.memory.specs.declared.Op.{Op}
 use Rattle.memory.specs.declared.Op.the-variants.{Push, Enqueue, Other}
 use Rattle.memory.specs.declared.Phase.{Phase}
 use Rattle.memory.specs.declared.Phase.the-variants.{Starting, Operating}
 use Rattle.memory.specs.declared.Row.{Row}
 use Rattle.memory.specs.Bytes.{allBelow}
 use Rattle.memory.specs.Names.{opCode, isOp}
 use Rattle.memory.specs.Rows.{opsDue, opIn, rowBelow}
 use Rattle.memory.specs.Plain.{among}
 use Rattle.memory.specs.Honest.{Input, filledRow, bare, endRow, rangeRow, occurrences, rangeRowsFrom, Cell, cell, cellAt, ramAge, ramRow, ramCells, ramEnds, ramFrom, romEndsFrom, romFrom, setEndsFrom, setFrom, topCell, stackEnds, popTime, popRow, stackFrom, queueFrom, operationsFilled, filledRows}
 use Rattle.memory.proofs.ReadFields.{decided}
 use Rattle.memory.proofs.ReadRows.{both-pass, RowsBelow, row-below}
 use Rattle.memory.proofs.Operations.{not-among, other-not-due}
 use Rattle.memory.proofs.Phases.{formed-guard}
 use Rattle.memory.proofs.Lengths.{columnsOf}
-use Rattle.memory.proofs.RoundTrip.{Printable, AllPrintable}
+use Rattle.demands.proofs.RoundTrip.{Printable, AllPrintable}
 use Rattle.memory.proofs.HonestLookups.{All, occurs-at-most}
 use Rattle.memory.proofs.FillerRows.{DueInput, DueInputs, valuesOf, Unrefused}
 
 -- What holds of both choices holds of the chosen one.
 chosen : {A : Type 0} (P : A → Type 0) (b : Bool) {x y : A} → P x → P y → P (cond b x y)

@@ -12,33 +12,33 @@ use borrow.Author.Tests.{lt-ltb}
 use Rattle.algebra.specs.Prime.{Prime}
 use Rattle.algebra.proofs.Mersenne.{prime-p}
 use Rattle.field.specs.Field.{p}
 use Rattle.memory.specs.declared.Memory.{Memory}
 use Rattle.memory.specs.declared.Memory.the-variants.{Ram, Rom, Set, Stack, Queue}
 use Rattle.memory.specs.declared.Row.{Row}
 use Rattle.memory.specs.declared.Parsed.the-variants.{Sound}
 use Rattle.memory.specs.declared.Challenge.{Challenge}
 use Rattle.memory.specs.declared.Report.{Report}
 use Rattle.memory.specs.Text.{bytes}
 use Rattle.memory.specs.Bytes.{Line, comma, feed, same, allBelow, linesOf}
 use Rattle.memory.specs.Names.{valueNames, rowNames, memoryName, memoryNamed}
 use Rattle.memory.specs.Rows.{limit, allowed}
 use Rattle.memory.specs.File.{parsedRow, rowsOf, parseRows, refusal, accepted, balanceReport, rowsReport, valuesFault, valuesReport, opens, openedBy, valuesRead, parseValues, namesFault, namesReport, openingReport, linesReport, fileReport}
 use Rattle.memory.specs.Honest.{Input, filledRows}
 use Rattle.memory.specs.Print.{numberText, rowsText, filledText, headerText}
 use Rattle.memory.specs.Step.{runOf, freshOf, endOf, reportOf}
 use Rattle.memory.specs.Bound.{elements}
-use Rattle.memory.specs.Statements.{Fillable, acceptance, HonestFileAccepted, HonestRunAccepted}
+use Rattle.demands.specs.Statements.{Fillable, acceptance, HonestFileAccepted, HonestRunAccepted}
 use Rattle.memory.proofs.Fold.{run-is-file}
 use Rattle.memory.proofs.Phases.{Parts, parts-no-fault}
 use Rattle.memory.proofs.Gates.{parts-gates}
 use Rattle.memory.proofs.Decimal.{tenDigits}
 use Rattle.memory.proofs.Lengths.{numbers-length}
-use Rattle.memory.proofs.RoundTrip.{above, line-first, joined, joined-above, numbers-line, allBelow-more, fields-back, rows-round-trip}
+use Rattle.demands.proofs.RoundTrip.{above, line-first, joined, joined-above, numbers-line, allBelow-more, fields-back, rows-round-trip}
 use Rattle.memory.proofs.FillerRows.{valuesOf, Unrefused, no-refusal}
-use Rattle.memory.proofs.HonestRows.{filled-parts}
-use Rattle.memory.proofs.HonestBalances.{filled-balances, values-pass}
-use Rattle.memory.proofs.FilledBelow.{filled-printable-rows, filled-below}
-use Rattle.memory.proofs.Demand.{sized-limit, allowed-sized}
+use Rattle.demands.proofs.HonestRows.{filled-parts}
+use Rattle.demands.proofs.HonestBalances.{filled-balances, values-pass}
+use Rattle.demands.proofs.FilledBelow.{filled-printable-rows, filled-below}
+use Rattle.demands.proofs.Demand.{sized-limit, allowed-sized}
 
 -- The names of the memories: their bytes are above the comma, they have at most 5, and a memory's name is that memory's.
 memory-above : (m : Memory) → above comma (memoryName m) ≡ true

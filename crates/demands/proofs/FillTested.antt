@@ -8,19 +8,19 @@ use mathlib.Core.List.{List, [], _∷_, map}
 use lib.Dec.{eqb, ltb}
 use lib.ListN.{length, take, drop}
 use borrow.Author.Tests.{eqb-true, eqb-false, lt-ltb, le-ltb}
 use Rattle.memory.specs.declared.Memory.{Memory}
 use Rattle.memory.specs.declared.Phase.{Phase}
 use Rattle.memory.specs.declared.Phase.the-variants.{Starting, Operating}
 use Rattle.memory.specs.Bytes.{Line}
 use Rattle.memory.specs.Rows.{opsDue}
 use Rattle.memory.specs.File.{Refusal, refusal}
 use Rattle.memory.specs.Plain.{Operation, store, load, look, member, push, skippedPush, enqueue, skippedEnqueue, pop, skippedPop, dequeue, skippedDequeue, start, after, among, holds}
 use Rattle.memory.specs.Honest.{Input, impossible, inputOperation}
 use Rattle.memory.specs.Filler.{inputFault, Placed, placed, operationFault, operationsFault, rowsFault}
 use Rattle.memory.specs.FillFile.{InputLine, sound, faulty, parseInput, inputLineFault, inputsFault, inputOfLine, inputsOfLines}
 use Rattle.memory.specs.FillStream.{late}
-use Rattle.memory.specs.Statements.{TestedRowsLate}
+use Rattle.demands.specs.Statements.{TestedRowsLate}
 use Rattle.memory.proofs.FillStream.{Faulted, input-faulted}
 
 -- rows that meet none of 3, 5 and 6
 abbrev Formed : ℕ → Memory → Phase → List Input → Type 0

@@ -13,21 +13,22 @@ use borrow.Author.Tests.{eqb-true, leb-true}
 use Rattle.algebra.specs.Prime.{Prime}
 use Rattle.algebra.proofs.Mersenne.{prime-p}
 use Rattle.field.specs.Field.{p}
 use Rattle.memory.specs.declared.Memory.{Memory}
 use Rattle.memory.specs.declared.Memory.the-variants.{Ram, Rom, Set, Stack, Queue}
 use Rattle.memory.specs.declared.Challenge.{Challenge}
 use Rattle.memory.specs.Bytes.{Line, allBelow}
 use Rattle.memory.specs.Rows.{limit, sized, allowed}
 use Rattle.memory.specs.File.{firstFault, parseRows, valuesFault}
 use Rattle.memory.specs.Plain.{right}
 use Rattle.memory.specs.Bound.{accepts, challenges, malformed, degree, rowsIn, traceIn}
-use Rattle.memory.specs.Statements.{Holds, Demand, DemandAt, DemandThree}
-use Rattle.memory.proofs.Balance.{challenges-none}
+use Rattle.memory.specs.Statements.{Holds}
+use Rattle.demands.specs.Statements.{Demand, DemandAt, DemandThree}
+use Rattle.demands.proofs.Balance.{challenges-none}
 use Rattle.memory.proofs.ReadRows.{both-pass, chosen-zero, lines-below}
-use Rattle.memory.proofs.WellFormed.{no-fault-well-formed}
-use Rattle.memory.proofs.WrongTrace.{right-or-rare}
+use Rattle.demands.proofs.WellFormed.{no-fault-well-formed}
+use Rattle.demands.proofs.WrongTrace.{right-or-rare}
 use Rattle.memory.proofs.Fold.{accepts-exactly-when}
-use Rattle.memory.proofs.HonestBalances.{honest-clause}
+use Rattle.demands.proofs.HonestBalances.{honest-clause}
 
 -- the first two of a list of tests
 both-tests : (a b c : Bool) → (a && (b && c)) ≡ true → (a && (b && true)) ≡ true

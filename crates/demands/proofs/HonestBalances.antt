@@ -12,33 +12,33 @@ use borrow.Author.Tests.{eq-eqb, not-false}
 use Rattle.algebra.specs.Prime.{Prime}
 use Rattle.algebra.specs.Multiset.{EquallyOften}
 use Rattle.algebra.specs.Hash.{hash}
 use Rattle.memory.specs.declared.Memory.{Memory}
 use Rattle.memory.specs.declared.Memory.the-variants.{Ram, Rom, Set, Stack, Queue}
 use Rattle.memory.specs.declared.Phase.{Phase}
 use Rattle.memory.specs.declared.Phase.the-variants.{Starting, Operating, Ending, Ranging}
 use Rattle.memory.specs.declared.Row.{Row}
 use Rattle.memory.specs.declared.Parsed.{Parsed}
 use Rattle.memory.specs.declared.Parsed.the-variants.{Sound, Fault}
 use Rattle.memory.specs.declared.Challenge.{Challenge}
 use Rattle.memory.specs.Bytes.{Line, allBelow}
 use Rattle.memory.specs.Rows.{allowed, opsDue, opIn}
 use Rattle.memory.specs.Equations.{Lists, listsOf, shuffleLists, rangedLists, fileLists, rangeBalances, memoryBalances}
 use Rattle.memory.specs.File.{noRow, parsedRow, rowsOf, parseRows, Refusal, refusal, firstFault, valuesFault}
 use Rattle.memory.specs.Plain.{start, right}
 use Rattle.memory.specs.Honest.{Input, inputOf, bare, filledRows, possible}
 use Rattle.memory.specs.Bound.{elements, accepts, malformed, rowsIn, traceIn, Advised}
 use Rattle.memory.specs.Statements.{Holds}
 use Rattle.memory.proofs.HonestLookups.{rom-complete, set-complete}
 use Rattle.memory.proofs.RamComplete.{ram-complete, ram-range-complete}
 use Rattle.memory.proofs.StackComplete.{stack-balance, stack-range}
 use Rattle.memory.proofs.QueueComplete.{queue-balance}
-use Rattle.memory.proofs.Balance.{often-balances}
+use Rattle.demands.proofs.Balance.{often-balances}
 use Rattle.memory.proofs.ReadRows.{both-pass, lines-below}
 use Rattle.memory.proofs.Operations.{other-not-due}
 use Rattle.memory.proofs.Fold.{accepts-exactly-when}
 use Rattle.memory.proofs.Phases.{DueRows, Parts, parts-no-fault}
 use Rattle.memory.proofs.FillerRows.{FilledRows, advised-rows, DueInputs, Unrefused, no-refusal, valuesOf}
-use Rattle.memory.proofs.HonestRows.{honestOps, honestEnds, honestRanges, due-inputs, filled-parts, filled-lists}
+use Rattle.demands.proofs.HonestRows.{honestOps, honestEnds, honestRanges, due-inputs, filled-parts, filled-lists}
 
 -- lists whose records are equally often on both sides of each shuffle, and whose hashed elements are the same
 pub record Balancing (l : Lists) : Type 0 where

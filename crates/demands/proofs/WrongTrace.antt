@@ -17,31 +17,31 @@ use Rattle.algebra.specs.Modulo.{minus}
 use Rattle.algebra.specs.Prime.{Prime}
 use Rattle.algebra.specs.Multiset.{EquallyOften}
 use Rattle.algebra.specs.Hash.{hash}
 use Rattle.memory.specs.declared.Memory.{Memory}
 use Rattle.memory.specs.declared.Memory.the-variants.{Ram, Rom, Set, Stack, Queue}
 use Rattle.memory.specs.declared.Op.the-variants.{Enqueue, Dequeue}
 use Rattle.memory.specs.declared.Row.{Row}
 use Rattle.memory.specs.declared.Challenge.{Challenge}
 use Rattle.memory.specs.Names.{opCode, isOp}
 use Rattle.memory.specs.Rows.{sized, raiseBy, lowerBy, raised, lowered, endsDue, rangesDue, initRows, operationRows, opsDue, depthFactor, depthProduct, sunk}
 use Rattle.memory.specs.Equations.{Triple, Lookup, Lists, balanced, romEnds, memberRead}
 use Rattle.memory.specs.Equations.{rangeSetup, rangeRead, rangeWrite, rangeEnds, accessLookups, cellEnds}
 use Rattle.memory.specs.Equations.{popLookups, enqueues, dequeues, endOlds, shuffleLists, rangedLists, listsOf}
 use Rattle.memory.specs.Equations.{endRows, rangeRows, fileLists, rangeBalances, memoryBalances}
 use Rattle.memory.specs.Gates.{takes}
 use Rattle.memory.specs.Plain.{start, right, traceOf}
 use Rattle.memory.specs.Bound.{challenges, degree}
 use Rattle.memory.proofs.Ages.{InRange}
 use Rattle.memory.proofs.Operations.{Ops, rowAt, row-cases}
 use Rattle.memory.proofs.Differences.{minus-exact}
 use Rattle.memory.proofs.Lookups.{rom-sound, set-sound, range-sound}
-use Rattle.memory.proofs.RamSound.{ram-sound}
+use Rattle.demands.proofs.RamSound.{ram-sound}
 use Rattle.memory.proofs.StackSound.{stack-sound}
 use Rattle.memory.proofs.QueueSound.{left-factor, right-factor, queue-sound}
-use Rattle.memory.proofs.Balance.{challenges-monotone, balanced-bound, hashes-bound}
+use Rattle.demands.proofs.Balance.{challenges-monotone, balanced-bound, hashes-bound}
 use Rattle.memory.proofs.ReadRows.{both-pass, RowsBelow}
-use Rattle.memory.proofs.WellFormed.{WellFormed, PartsBelow, parts-below}
-use Rattle.memory.proofs.Sizes
+use Rattle.demands.proofs.WellFormed.{WellFormed, PartsBelow, parts-below}
+use Rattle.demands.proofs.Sizes
 
 -- a test of challenges that passes only where the equations of the rows hold
 abbrev pub Balancing : ℕ → Memory → ℕ → ℕ → List Row → (Challenge → Bool) → Type 0

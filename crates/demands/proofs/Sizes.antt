@@ -11,19 +11,19 @@ use lib.ListN.{length, length-append, length-map}
 use borrow.Author.Tests.{leb-true}
 use Rattle.algebra.specs.Modulo.{plus, minus}
 use Rattle.algebra.specs.Vector.{Below}
 use Rattle.memory.specs.declared.Memory.{Memory}
 use Rattle.memory.specs.declared.Memory.the-variants.{Stack, Queue}
 use Rattle.memory.specs.declared.Op.the-variants.{Push, Pop, Enqueue, Dequeue}
 use Rattle.memory.specs.declared.Row.{Row}
 use Rattle.memory.specs.Names.{opCode, isOp}
 use Rattle.memory.specs.Rows.{raiseBy, lowerBy, raised, lowered, opsDue}
 use Rattle.memory.specs.Equations.{Triple, triple, pair, Lookup, initWrites, lookRead, lookWrite, romEnds, setInit, memberRead, memberWrite}
 use Rattle.memory.specs.Equations.{rangeSetup, rangeRead, rangeWrite, rangeEnds, accessRead, newOf, accessWrites, accessLookups, cellEnds}
 use Rattle.memory.specs.Equations.{pushWrite, pushWrites, popRead, popReads, popLookup, popLookups, enqueues, dequeues, endOlds}
 use Rattle.memory.specs.Gates.{rowsWith, takes}
 use Rattle.memory.proofs.Operations.{Ops, rowAt, row-cases}
-use Rattle.memory.proofs.Balance.{TriplesBelow}
+use Rattle.demands.proofs.Balance.{TriplesBelow}
 use Rattle.memory.proofs.ReadRows.{RowBelow, RowsBelow}
 
 -- the sum and the difference modulo q are below q
 plus-below : (q x y : ℕ) → 0 < q → plus q x y < q

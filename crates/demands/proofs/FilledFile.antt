@@ -12,24 +12,24 @@ use lib.ListN.{length, getD, take, drop, length-append, take-append-drop, length
 use lib.Seq.{length-take-le}
 use borrow.Author.Tests.{eqb-true, eqb-false, leb-true, ltb-true, ltb-false}
 use Rattle.field.specs.Field.{p}
 use Rattle.memory.specs.declared.Memory.{Memory}
 use Rattle.memory.specs.declared.Op.{Op}
 use Rattle.memory.specs.declared.Phase.the-variants.{Starting, Operating}
 use Rattle.memory.specs.Bytes.{Line, same, allBelow, linesOf}
 use Rattle.memory.specs.Names.{fillNames, inputNames, memoryNamed}
 use Rattle.memory.specs.Rows.{allowed, opsDue, opIn, formed}
 use Rattle.memory.specs.File.{Refusal, refusal, namesFault, fileReport}
 use Rattle.memory.specs.Honest.{Input, bare, filledRows}
 use Rattle.memory.specs.Filler.{Placed, inputFault, rowsFault}
 use Rattle.memory.specs.Print.{refusalText, filledText, headerText}
 use Rattle.memory.specs.FillFile.{fillLimit, fillAllowed, Job, job, noJob, jobFields, jobOf, jobRead, parseJob, InputLine, sound, faulty, inputFields, inputRead, parseInput, inputLineFault, inputsFault, inputOfLine, inputsOfLines, runText, inputsText, jobText, jobLinesText, fillLinesText, fillText}
 use Rattle.memory.specs.FillStream.{late}
-use Rattle.memory.specs.Statements.{Fillable, FillNumber, FillAccepted, FillingAccepted}
+use Rattle.demands.specs.Statements.{Fillable, FillNumber, FillAccepted, FillingAccepted}
 use Rattle.memory.proofs.ReadFields.{decided, read-fields}
 use Rattle.memory.proofs.ReadRows.{both-pass, chosen-zero}
 use Rattle.memory.proofs.HonestLookups.{All}
-use Rattle.memory.proofs.HonestFile.{honest-file-accepted}
-use Rattle.memory.proofs.FillTested.{tested-rows-late}
+use Rattle.demands.proofs.HonestFile.{honest-file-accepted}
+use Rattle.demands.proofs.FillTested.{tested-rows-late}
 
 -- A value line reads as a size and count that are allowed, or as a fault.
 abbrev GoodJob : Job → Type 0

@@ -1,0 +1,14 @@
+pub mod RamSound
+pub mod Balance
+pub mod WellFormed
+pub mod Sizes
+pub mod WrongTrace
+pub mod HonestRows
+pub mod HonestBalances
+pub mod Demand
+pub mod RoundTrip
+pub mod FilledBelow
+pub mod HonestFile
+pub mod FilledFile
+pub mod FillTested
+pub mod Promises
