@@ -1,4 +1,7 @@
+pub mod Records
 pub mod RamSound
+pub mod QueueSound
+pub mod StackSound
 pub mod Balance
 pub mod WellFormed
 pub mod Sizes

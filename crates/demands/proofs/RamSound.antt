@@ -21,7 +21,7 @@ use Rattle.memory.specs.Plain.{allFit, operationOf}
 use Rattle.memory.specs.Honest.{Cell, cellAt}
 use Rattle.memory.proofs.Ages.{InRange}
 use Rattle.memory.proofs.Clock.{age-of-later}
-use Rattle.memory.proofs.Records.{isRecord, record-itself, counted-parts, not-counted}
+use Rattle.demands.proofs.Records.{isRecord, record-itself, counted-parts, not-counted}
 use Rattle.memory.proofs.RamCells.{contents, cellRecord, cellRecords, startCells, start-contents, start-records, Reads, accessed, access-exchange, access-fits, access-after, Balanced}
 
 -- a record whose time none of the writes to come has does not occur in them

@@ -36,8 +36,8 @@ use Rattle.memory.proofs.Operations.{Ops, rowAt, row-cases}
 use Rattle.memory.proofs.Differences.{minus-exact}
 use Rattle.memory.proofs.Lookups.{rom-sound, set-sound, range-sound}
 use Rattle.demands.proofs.RamSound.{ram-sound}
-use Rattle.memory.proofs.StackSound.{stack-sound}
-use Rattle.memory.proofs.QueueSound.{left-factor, right-factor, queue-sound}
+use Rattle.demands.proofs.StackSound.{stack-sound}
+use Rattle.demands.proofs.QueueSound.{left-factor, right-factor, queue-sound}
 use Rattle.demands.proofs.Balance.{challenges-monotone, balanced-bound, hashes-bound}
 use Rattle.memory.proofs.ReadRows.{both-pass, RowsBelow}
 use Rattle.demands.proofs.WellFormed.{WellFormed, PartsBelow, parts-below}

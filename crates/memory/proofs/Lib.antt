@@ -4,16 +4,14 @@ pub mod Lookups
 pub mod HonestLookups
 pub mod Clock
 pub mod Differences
-pub mod Records
 pub mod HonestAges
 pub mod RamCells
 pub mod RamComplete
 pub mod RamRight
 pub mod Operations
-pub mod QueueSound
+pub mod QueueDepth
 pub mod QueueComplete
 pub mod StackCells
-pub mod StackSound
 pub mod StackComplete
 pub mod ReadFields
 pub mod ReadRows

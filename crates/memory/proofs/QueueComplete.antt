@@ -21,7 +21,7 @@ use Rattle.memory.specs.Equations.{enqueues, dequeues, endOlds}
 use Rattle.memory.specs.Plain.{Operation, enqueue, skippedEnqueue, dequeue, skippedDequeue, operationOf, allFit, fits, after, holds}
 use Rattle.memory.specs.Honest.{Input, inputOf, filledRow, bare, endRow, queueFrom, impossible, inputOperation, possible}
 use Rattle.memory.proofs.Operations.{Ops, Inputs, rowAt, row-cases, inputAt, input-cases}
-use Rattle.memory.proofs.QueueSound.{queue-depth-nonzero}
+use Rattle.memory.proofs.QueueDepth.{queue-depth-nonzero}
 
 -- the row that the filler writes for an operation of a queue, and the queue's elements after it
 unfoldable pub queueRow : List ℕ → Input → Row

@@ -1,6 +1,6 @@
 -- The cells of a stack, from the top down: the records that hold them, and the contents as the plain memory has them, from the bottom up.
 -- Assumes nothing.
-use Prim.Native.Nat.{ℕ, suc, _<_}
+use Prim.Native.Nat.{ℕ, suc, _+_}
 use mathlib.Core.Path.{_≡_, refl, ap}
 use mathlib.Core.Bool.{true, false}
 use mathlib.Core.List.{List, [], _∷_, _++_}
@@ -8,31 +8,21 @@ use native.Mathlib.Omega.{arith}
 use lib.Dec.{eqb}
 use lib.ListN.{length}
 use Rattle.algebra.specs.Multiset.{total}
-use Rattle.memory.specs.Equations.{Triple, triple}
+use Rattle.memory.specs.declared.Row.{Row}
+use Rattle.memory.specs.Equations.{Triple, triple, pushWrites, popReads}
 use Rattle.memory.specs.Plain.{pop, front, back, holds, fits, after}
 use Rattle.memory.specs.Honest.{Cell, impossible}
-use Rattle.memory.proofs.Records.{isRecord, counted-parts, not-counted}
 
 -- the records of the cells: the height of a cell, its content and its time
 unfoldable pub stackRecords : List Cell → List Triple
 stackRecords [] = []
 stackRecords (c ∷ cells) = triple (suc (length cells)) (c .content) (c .time) ∷ stackRecords cells
 
--- a record at a height above the cells is none of theirs
-records-below : (r : Triple) (cells : List Cell) → length cells < r .x → total (isRecord r) (stackRecords cells) ≡ 0
-unfolding total stackRecords triple
-records-below r [] h = refl
-records-below r (c ∷ cells) h =
-    omega (arith, not-counted r (triple (suc (length cells)) (c .content) (c .time)) (λ p. omega (arith, p .0)), records-below r cells (omega arith))
-
--- a record at the height of the top that is one of the cells' is the top's
-pub record-of-top :
-    (r : Triple) (c : Cell) (cells : List Cell) → r .x ≡ suc (length cells) → 0 < total (isRecord r) (stackRecords (c ∷ cells))
-    → (r .y ≡ c .content) × (r .z ≡ c .time)
-unfolding total stackRecords triple
-record-of-top r c cells e h =
-    let p = counted-parts r (triple (suc (length cells)) (c .content) (c .time)) (omega (arith, records-below r cells (omega arith))) in
-    (p .1, p .2)
+-- live cells and writes to come hold the same records as reads to come and ends
+abbrev pub Balanced : ℕ → List Cell → ℕ → ℕ → List Row → List Triple → Type 0
+Balanced q cells up down ops ends =
+    (weight : Triple → ℕ)
+    → total weight (stackRecords cells) + total weight (pushWrites q up down ops) ≡ total weight (popReads q up down ops) + total weight ends
 
 -- the contents from the bottom up
 unfoldable pub stacked : List Cell → List ℕ

@@ -28,8 +28,7 @@ use Rattle.memory.proofs.Operations.{Ops, Inputs, rowAt, row-cases, inp
 use Rattle.memory.proofs.Differences.{minus-exact}
 use Rattle.memory.proofs.HonestLookups.{keysAfter, honest, honestLookups, agesAfter, AgesIn, range-complete}
 use Rattle.memory.proofs.HonestAges.{Before, before-later, lookups-in-range}
-use Rattle.memory.proofs.StackCells.{stackRecords, stacked, pop-top, pop-after, pop-possible, pop-impossible, pop-unfit}
-use Rattle.memory.proofs.StackSound.{Balanced}
+use Rattle.memory.proofs.StackCells.{stackRecords, Balanced, stacked, pop-top, pop-after, pop-possible, pop-impossible, pop-unfit}
 
 -- the age that an operation of a stack looks up at a clock: that of a pop
 unfoldable pub stackAge : List Cell → ℕ → Input → List ℕ

@@ -13,20 +13,36 @@ use borrow.Author.Tests.{eq-eqb}
 use Rattle.algebra.specs.Modulo.{minus}
 use Rattle.algebra.specs.Multiset.{total, EquallyOften}
 use Rattle.algebra.proofs.Multiset.{total-append}
 use Rattle.memory.specs.declared.Memory.the-variants.{Stack}
 use Rattle.memory.specs.declared.Op.the-variants.{Push, Pop}
 use Rattle.memory.specs.declared.Row.{Row}
 use Rattle.memory.specs.Names.{opCode, isOp}
 use Rattle.memory.specs.Rows.{raiseBy, lowerBy, opsDue}
 use Rattle.memory.specs.Equations.{Triple, triple, pushWrite, pushWrites, popRead, popReads, popLookup, popLookups}
 use Rattle.memory.specs.Plain.{operationOf, allFit, fits, after}
 use Rattle.memory.specs.Honest.{Cell, cell}
 use Rattle.memory.proofs.Ages.{InRange}
 use Rattle.memory.proofs.Clock.{age-of-later}
 use Rattle.memory.proofs.Operations.{Ops, rowAt, row-cases}
 use Rattle.memory.proofs.Differences.{minus-exact}
-use Rattle.memory.proofs.Records.{isRecord, record-itself, not-counted}
-use Rattle.memory.proofs.StackCells.{stackRecords, stacked, record-of-top, pop-top, pop-after}
+use Rattle.demands.proofs.Records.{isRecord, record-itself, counted-parts, not-counted}
+use Rattle.memory.proofs.StackCells.{stackRecords, Balanced, stacked, pop-top, pop-after}
+
+-- a record at a height above the cells is none of theirs
+records-below : (r : Triple) (cells : List Cell) → length cells < r .x → total (isRecord r) (stackRecords cells) ≡ 0
+unfolding total stackRecords triple
+records-below r [] h = refl
+records-below r (c ∷ cells) h =
+    omega (arith, not-counted r (triple (suc (length cells)) (c .content) (c .time)) (λ p. omega (arith, p .0)), records-below r cells (omega arith))
+
+-- a record at the height of the top that is one of the cells' is the top's
+record-of-top :
+    (r : Triple) (c : Cell) (cells : List Cell) → r .x ≡ suc (length cells) → 0 < total (isRecord r) (stackRecords (c ∷ cells))
+    → (r .y ≡ c .content) × (r .z ≡ c .time)
+unfolding total stackRecords triple
+record-of-top r c cells e h =
+    let p = counted-parts r (triple (suc (length cells)) (c .content) (c .time)) (omega (arith, records-below r cells (omega arith))) in
+    (p .1, p .2)
 
 -- a record whose time is that of no write to come is none of them
 abbrev Apart : ℕ → Triple → List Row → Type 0
@@ -51,12 +67,6 @@ later-pushes-apart q r (row ∷ rows) due =
     (λ up down apart. rest (up + 0) (down + 0) (λ low high. apart (omega arith) (omega arith)))
     (due .0)
     (due .1)
-
--- live cells and writes to come hold the same records as reads to come and ends
-abbrev pub Balanced : ℕ → List Cell → ℕ → ℕ → List Row → List Triple → Type 0
-Balanced q cells up down ops ends =
-    (weight : Triple → ℕ)
-    → total weight (stackRecords cells) + total weight (pushWrites q up down ops) ≡ total weight (popReads q up down ops) + total weight ends
 
 -- what is to be shown of the operations from some point on, after `up` executed pushes and `down` executed pops
 abbrev Sound : ℕ → ℕ → List Row → Type 0
