@@ -4,19 +4,27 @@
 use Prim.Native.Nat.{ℕ, zero, suc, _+_, _-_, _*_, _/_, _%_, _^_, _≤_, _<_, _∣_}
 use mathlib.Core.Path.{_≡_, sym, _∙_, ap, subst}
 use mathlib.Core.Logic.{inl, inr, _≢_}
-use mathlib.Core.Bool.{not}
+use mathlib.Core.Bool.{Bool, true, false, _&&_, not}
 use mathlib.Core.List.{List, [], _∷_}
 use native.Mathlib.Nat.{eq-zero-or-pos, eq-or-lt-of-le, mod-lt, mod-eq-of-lt, mod-add-div, le-refl, mul-mod-right, dvd-mul-left, eq-one-of-dvd-one}
 use native.Mathlib.Nat.{eq-of-mul-eq-mul-left, div-eq-of-eq-mul-right, div-le-self}
 use native.Mathlib.Omega.{arith}
 use lib.Dec.{eqb, T, T-not, eqb→eq, eqb-refl, leb→le}
-use store.Enc.{and-l, and-r}
 use Rattle.algebra.specs.Modulo.{Same}
 use Rattle.algebra.specs.Prime.{Prime, multiply, power, undivided, tried, proper, certified}
 use Rattle.algebra.specs.Statements.{CertifiedPrime}
 use Rattle.algebra.proofs.Power.{power-is}
 use Rattle.algebra.proofs.Euclid.{zero-product}
 use Rattle.algebra.proofs.Order.{undivided-prime, multiple-power, remainder-power, order-prime}
+
+-- of two tests that both pass, the first passes, and the second
+and-l : (x y : Bool) → T (x && y) → T x
+and-l true y t = tt
+and-l false y t = t
+
+and-r : (x y : Bool) → T (x && y) → T y
+and-r true y t = t
+and-r false y t = absurd t
 
 -- a test for equality that fails
 unequal : (a b : ℕ) → T (not (eqb a b)) → a ≢ b
