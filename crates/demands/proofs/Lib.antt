@@ -1,3 +1,4 @@
+pub mod Cases
 pub mod Records
 pub mod RamSound
 pub mod QueueSound

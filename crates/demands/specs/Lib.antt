@@ -1,2 +1,3 @@
 pub mod Statements
+pub mod Cases
 pub mod Promises

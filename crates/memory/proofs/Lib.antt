@@ -1,4 +1,3 @@
-pub mod Cases
 pub mod Ages
 pub mod Lookups
 pub mod HonestLookups

@@ -16,5 +16,4 @@ pub mod Statements
 pub mod Print
 pub mod Stream
 pub mod FillFile
-pub mod Cases
 pub mod Promises
