@@ -14,7 +14,7 @@ use Rattle.memory.specs.declared.Row.{Row}
 use Rattle.memory.specs.Text.{bytes}
 use Rattle.memory.specs.Bytes.{comma, feed}
 use Rattle.memory.specs.Names.{isOp, opName, rowNames, refusalNames}
-use Rattle.memory.specs.Honest.{Input, bare, endRow, rangeRowsFrom, Cell, cell, cellAt, ramAge, ramCells, ramEnds, ramFrom, romEndsFrom, romFrom, setEndsFrom, setFrom, stackEnds, popTime, stackFrom, queueFrom, operationsFilled, filledRows}
+use Rattle.memory.specs.Honest.{Input, bare, endRow, rangeRowsFrom, Cell, cell, ramAge, ramCells, ramEnds, ramFrom, romEndsFrom, romFrom, setEndsFrom, setFrom, stackEnds, popTime, stackFrom, queueFrom, operationsFilled, filledRows}
 use Rattle.memory.specs.Filler.{inputsIn, room, rowsFault}
 use Rattle.memory.specs.Print.{digitsOnto, numberText, numbersText, rowText, rowsText, refusalText, filledText}
 use Rattle.memory.specs.FillFile.{fillLimit, runText}
@@ -77,7 +77,7 @@ ram-count cells clock ages t [] =
     length-append (ramEnds cells) (rangeRowsFrom 1 t ages)
     ∙ omega (arith, length-map cells (λ c. endRow 0 (c .content) (c .time) 0), range-count 1 t ages)
 ram-count cells clock ages t (i ∷ is) =
-    let kept = length-set cells (i .addr) (cell (cond (eqb (i .guard) 1) (i .value) (cellAt cells (i .addr) .content)) clock) in
+    let kept : length (ramCells cells clock i) ≡ length cells = length-set cells (i .addr) _ in
     omega (arith, ram-count (ramCells cells clock i) (suc clock) (ramAge cells clock i ∷ ages) t is, kept)
 
 rom-ends-count : (k : ℕ) (vs keys : List ℕ) → length (romEndsFrom k vs keys) ≡ length vs
