@@ -27,7 +27,7 @@ use Rattle.memory.proofs.Phases.{formed-guard}
 use Rattle.memory.proofs.Lengths.{columnsOf}
 use Rattle.demands.proofs.RoundTrip.{Printable, AllPrintable}
 use Rattle.memory.proofs.HonestLookups.{All, occurs-at-most}
-use Rattle.memory.proofs.FillerRows.{DueInput, DueInputs, valuesOf, Unrefused}
+use Rattle.demands.proofs.Advice.{DueInput, DueInputs, valuesOf, Unrefused}
 
 -- What holds of both choices holds of the chosen one.
 chosen : {A : Type 0} (P : A → Type 0) (b : Bool) {x y : A} → P x → P y → P (cond b x y)

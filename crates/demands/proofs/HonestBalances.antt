@@ -37,7 +37,7 @@ use Rattle.memory.proofs.ReadRows.{both-pass, lines-below}
 use Rattle.memory.proofs.Operations.{other-not-due}
 use Rattle.memory.proofs.Fold.{accepts-exactly-when}
 use Rattle.memory.proofs.Phases.{DueRows, Parts, parts-no-fault}
-use Rattle.memory.proofs.FillerRows.{FilledRows, advised-rows, DueInputs, Unrefused, no-refusal, valuesOf}
+use Rattle.demands.proofs.Advice.{FilledRows, advised-rows, DueInputs, Unrefused, no-refusal, valuesOf}
 use Rattle.demands.proofs.HonestRows.{honestOps, honestEnds, honestRanges, due-inputs, filled-parts, filled-lists}
 
 -- lists whose records are equally often on both sides of each shuffle, and whose hashed elements are the same

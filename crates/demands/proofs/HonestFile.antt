@@ -34,7 +34,7 @@ use Rattle.memory.proofs.Gates.{parts-gates}
 use Rattle.memory.proofs.Decimal.{tenDigits}
 use Rattle.memory.proofs.Lengths.{numbers-length}
 use Rattle.demands.proofs.RoundTrip.{above, line-first, joined, joined-above, numbers-line, allBelow-more, fields-back, rows-round-trip}
-use Rattle.memory.proofs.FillerRows.{valuesOf, Unrefused, no-refusal}
+use Rattle.demands.proofs.Advice.{valuesOf, Unrefused, no-refusal}
 use Rattle.demands.proofs.HonestRows.{filled-parts}
 use Rattle.demands.proofs.HonestBalances.{filled-balances, values-pass}
 use Rattle.demands.proofs.FilledBelow.{filled-printable-rows, filled-below}

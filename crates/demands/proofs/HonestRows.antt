@@ -37,7 +37,7 @@ use Rattle.memory.proofs.StackComplete.{stackRow, stack-inputs, stackOps, stack
 use Rattle.memory.proofs.QueueComplete.{queueRow, queue-inputs, queueOps, queueFinal, queueEnds, queue-filled, queue-length, queue-nonzero, queue-ends-due, queue-right-possible, queue-right-operations}
 use Rattle.memory.proofs.ReadRows.{both-pass, RowBelow, RowsBelow, lines-below, taken-below, dropped-below}
 use Rattle.memory.proofs.Phases.{DueRow, DueRows, Parts, only-op, formed-guard, due-ops, parts-inits, parts-ops, parts-lists, lines-parts, parts-no-fault}
-use Rattle.memory.proofs.FillerRows.{filled-advised, DueInput, DueInputs, valuesOf, Unrefused, unrefused-zero}
+use Rattle.demands.proofs.Advice.{filled-advised, DueInput, DueInputs, valuesOf, Unrefused, unrefused-zero}
 use Rattle.demands.proofs.FilledBelow.{filled-below}
 
 -- The rows that the honest prover's rules give after the init rows: operations, end rows, range rows.

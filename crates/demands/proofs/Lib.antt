@@ -7,6 +7,7 @@ pub mod Balance
 pub mod WellFormed
 pub mod Sizes
 pub mod WrongTrace
+pub mod Advice
 pub mod HonestRows
 pub mod HonestBalances
 pub mod Demand
