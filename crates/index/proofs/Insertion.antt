@@ -1,5 +1,5 @@
 -- A node put into the tree, as the code does it.
---     inserted-as     by where the search for the node's value ends
+--     inserted-there, inserted-new    by where the search for the node's value ends
 --     grown-next, grown-done      the nodes that are left to put in
 --     found-as, found-none    what a search answers
 -- Assumes nothing.
@@ -10,15 +10,27 @@ use mathlib.Core.Path.{_≡_, refl, sym, ap, _∙_}
 use mathlib.Core.List.{List, [], _∷_}
 use lib.Dec.{eqb}
 use lib.ListN.{length, getD, set}
+use borrow.Author.Tests.{eq-eqb, ne-eqb}
 use Rattle.index.specs.declared.Stop.{Stop}
 use Rattle.index.specs.Tree.{joined, walked, stopAt, stopOf, found, inserted, grownFrom}
 
-pub inserted-as : (values links : List ℕ) (k x : ℕ) (s : Stop) → getD values k 0 ≡ x → s ≡ stopOf x values links
+-- where the search for the node's value ends
+unfolded : (values links : List ℕ) (k x : ℕ) (s : Stop) → getD values k 0 ≡ x → s ≡ stopOf x values links
     → inserted values links k ≡ cond (eqb (getD values (s .node) 0) x) links (set links (s .node) (joined (s .key) (getD links (s .node) 0) k))
 unfolding inserted
-inserted-as values links k x s is ends =
+unfolded values links k x s is ends =
     let same : stopOf (getD values k 0) values links ≡ s = ap (λ (y : ℕ). stopOf y values links) is ∙ sym ends in
     λ i. cond (eqb (getD values (same i .node) 0) (is i)) links (set links (same i .node) (joined (same i .key) (getD links (same i .node) 0) k))
+
+-- an earlier node has the value
+pub inserted-there : (values links : List ℕ) (k x : ℕ) (s : Stop) → getD values k 0 ≡ x → s ≡ stopOf x values links → getD values (s .node) 0 ≡ x
+    → inserted values links k ≡ links
+inserted-there values links k x s is ends here = unfolded values links k x s is ends ∙ rw (eq-eqb _ _ here)
+
+-- none has it
+pub inserted-new : (values links : List ℕ) (k x : ℕ) (s : Stop) (w : ℕ) → getD values k 0 ≡ x → s ≡ stopOf x values links
+    → (getD values (s .node) 0 ≡ x → ⊥) → w ≡ joined (s .key) (getD links (s .node) 0) k → inserted values links k ≡ set links (s .node) w
+inserted-new values links k x s w is ends other word = unfolded values links k x s is ends ∙ rw (ne-eqb _ _ other, word)
 
 pub grown-next : (values links : List ℕ) (n k : ℕ) → k < n → grownFrom values k (n - k) links ≡ grownFrom values (k + 1) (n - (k + 1)) (inserted values links k)
 unfolding grownFrom

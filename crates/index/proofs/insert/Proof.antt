@@ -1,12 +1,11 @@
 -- `index::insert` meets its contract.
 -- Assumes nothing.
 use native.Mathlib.Omega.{arith}
-use mathlib.Core.Path.{sym, _∙_}
+use mathlib.Core.Path.{refl, sym, _∙_}
 use lib.Seq.{set-out}
-use borrow.Author.Tests.{eq-eqb, ne-eqb}
 use Rattle.index.specs.Values.{valuesIn}
 use Rattle.index.proofs.Values.{values-at}
-use Rattle.index.proofs.Insertion.{inserted-as}
+use Rattle.index.proofs.Insertion.{inserted-there, inserted-new}
 use borrow.Author.Needs.{needs}
 use Rattle.index.proofs.insert.Statement.{statement}
 use Rattle.index.proofs.insert.Tie as tie
@@ -42,7 +41,14 @@ same-length : tie.Need-same-length
 same-length c = search needs
 
 returns : tie.Need-returns
-returns c = sym (inserted-as (valuesIn (c .before .before .before .before .before .before .before .args .inits .now)) (c .before .before .before .before .before .before .before .args .links .now) (c .before .before .before .before .before .before .before .args .k) _ (c .before .before .walk .result) (values-at (c .before .before .before .before .before .before .before .args .inits .now) (c .before .before .before .before .before .before .before .args .k) (omega (arith, c .before .before .before .before .before .before .before .pre .0 .held, c .before .before .before .before .before .before .before .pre .1))) (c .before .before .walk .ensures .0) ∙ simp (eq-eqb _ _ (values-at (c .before .before .before .before .before .before .before .args .inits .now) (c .before .before .walk .result .node) (omega (arith, c .before .before .before .before .before .before .before .pre .0 .held, c .before .before .walk .ensures .1)) ∙ c .if1 .taken)))
+returns c =
+    let start = c .before .before .before .before .before .before .before in
+    let walk = c .before .before .walk in
+    let values = valuesIn (start .args .inits .now) in
+    let at = values-at (start .args .inits .now) in
+    let own = at (start .args .k) (omega (arith, start .pre .0 .held, start .pre .1)) in
+    let found = at (walk .result .node) (omega (arith, start .pre .0 .held, walk .ensures .1)) in
+    sym (inserted-there values (start .args .links .now) (start .args .k) _ (walk .result) own (walk .ensures .0) (found ∙ c .if1 .taken))
 
 mul-join : tie.Need-mul-join
 mul-join c = search needs
@@ -63,13 +69,29 @@ same-length-2 : tie.Need-same-length-2
 same-length-2 c = search needs
 
 returns-2 : tie.Need-returns-2
-returns-2 c = sym (inserted-as (valuesIn (c .before .before .before .before .before .before .before .before .before .before .args .inits .now)) (c .before .before .before .before .before .before .before .before .before .before .args .links .now) (c .before .before .before .before .before .before .before .before .before .before .args .k) _ (c .before .before .before .before .before .walk .result) (values-at (c .before .before .before .before .before .before .before .before .before .before .args .inits .now) (c .before .before .before .before .before .before .before .before .before .before .args .k) (omega (arith, c .before .before .before .before .before .before .before .before .before .before .pre .0 .held, c .before .before .before .before .before .before .before .before .before .before .pre .1))) (c .before .before .before .before .before .walk .ensures .0) ∙ simp (ne-eqb _ _ (λ e. c .before .before .before .if1 .left (sym (values-at (c .before .before .before .before .before .before .before .before .before .before .args .inits .now) (c .before .before .before .before .before .walk .result .node) (omega (arith, c .before .before .before .before .before .before .before .before .before .before .pre .0 .held, c .before .before .before .before .before .walk .ensures .1))) ∙ e)), sym (c .join .ensures)))
+returns-2 c =
+    let start = c .before .before .before .before .before .before .before .before .before .before in
+    let walk = c .before .before .before .before .before .walk in
+    let values = valuesIn (start .args .inits .now) in
+    let at = values-at (start .args .inits .now) in
+    let own = at (start .args .k) (omega (arith, start .pre .0 .held, start .pre .1)) in
+    let found = at (walk .result .node) (omega (arith, start .pre .0 .held, walk .ensures .1)) in
+    let new = inserted-new values (start .args .links .now) (start .args .k) _ (walk .result) (c .join .result) own (walk .ensures .0) in
+    sym (new (λ e. c .before .before .before .if1 .left (sym found ∙ e)) (c .join .ensures))
 
 same-length-3 : tie.Need-same-length-3
 same-length-3 c = search needs
 
 returns-3 : tie.Need-returns-3
-returns-3 c = sym (inserted-as (valuesIn (c .before .before .before .before .before .before .before .before .args .inits .now)) (c .before .before .before .before .before .before .before .before .args .links .now) (c .before .before .before .before .before .before .before .before .args .k) _ (c .before .before .before .walk .result) (values-at (c .before .before .before .before .before .before .before .before .args .inits .now) (c .before .before .before .before .before .before .before .before .args .k) (omega (arith, c .before .before .before .before .before .before .before .before .pre .0 .held, c .before .before .before .before .before .before .before .before .pre .1))) (c .before .before .before .walk .ensures .0) ∙ simp (ne-eqb _ _ (λ e. c .before .if1 .left (sym (values-at (c .before .before .before .before .before .before .before .before .args .inits .now) (c .before .before .before .walk .result .node) (omega (arith, c .before .before .before .before .before .before .before .before .pre .0 .held, c .before .before .before .walk .ensures .1))) ∙ e))) (set-out (c .before .before .before .before .before .before .before .before .args .links .now) (c .before .before .before .walk .result .node) _ (c .if2 .left)))
+returns-3 c =
+    let start = c .before .before .before .before .before .before .before .before in
+    let walk = c .before .before .before .walk in
+    let values = valuesIn (start .args .inits .now) in
+    let at = values-at (start .args .inits .now) in
+    let own = at (start .args .k) (omega (arith, start .pre .0 .held, start .pre .1)) in
+    let found = at (walk .result .node) (omega (arith, start .pre .0 .held, walk .ensures .1)) in
+    let new = inserted-new values (start .args .links .now) (start .args .k) _ (walk .result) _ own (walk .ensures .0) in
+    sym (new (λ e. c .before .if1 .left (sym found ∙ e)) refl ∙ set-out (start .args .links .now) (walk .result .node) _ (c .if2 .left))
 
 pub insert-spec : {M : Type 1} → statement M
 insert-spec =
