@@ -14,23 +14,23 @@ use borrow.Author.Tests.{eq-eqb, ne-eqb}
 use Rattle.index.specs.declared.Stop.{Stop}
 use Rattle.index.specs.Tree.{joined, walked, stopAt, stopOf, found, inserted, grownFrom}
 
--- where the search for the node's value ends
-unfolded : (values links : List ℕ) (k x : ℕ) (s : Stop) → getD values k 0 ≡ x → s ≡ stopOf x values links
+-- by where the search for the node's value ends
+inserted-as : (values links : List ℕ) (k x : ℕ) (s : Stop) → getD values k 0 ≡ x → s ≡ stopOf x values links
     → inserted values links k ≡ cond (eqb (getD values (s .node) 0) x) links (set links (s .node) (joined (s .key) (getD links (s .node) 0) k))
 unfolding inserted
-unfolded values links k x s is ends =
+inserted-as values links k x s is ends =
     let same : stopOf (getD values k 0) values links ≡ s = ap (λ (y : ℕ). stopOf y values links) is ∙ sym ends in
     λ i. cond (eqb (getD values (same i .node) 0) (is i)) links (set links (same i .node) (joined (same i .key) (getD links (same i .node) 0) k))
 
 -- an earlier node has the value
 pub inserted-there : (values links : List ℕ) (k x : ℕ) (s : Stop) → getD values k 0 ≡ x → s ≡ stopOf x values links → getD values (s .node) 0 ≡ x
     → inserted values links k ≡ links
-inserted-there values links k x s is ends here = unfolded values links k x s is ends ∙ rw (eq-eqb _ _ here)
+inserted-there values links k x s is ends here = inserted-as values links k x s is ends ∙ rw (eq-eqb _ _ here)
 
 -- none has it
 pub inserted-new : (values links : List ℕ) (k x : ℕ) (s : Stop) (w : ℕ) → getD values k 0 ≡ x → s ≡ stopOf x values links
     → (getD values (s .node) 0 ≡ x → ⊥) → w ≡ joined (s .key) (getD links (s .node) 0) k → inserted values links k ≡ set links (s .node) w
-inserted-new values links k x s w is ends other word = unfolded values links k x s is ends ∙ rw (ne-eqb _ _ other, word)
+inserted-new values links k x s w is ends other word = inserted-as values links k x s is ends ∙ rw (ne-eqb _ _ other, word)
 
 pub grown-next : (values links : List ℕ) (n k : ℕ) → k < n → grownFrom values k (n - k) links ≡ grownFrom values (k + 1) (n - (k + 1)) (inserted values links k)
 unfolding grownFrom
