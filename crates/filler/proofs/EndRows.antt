@@ -13,10 +13,10 @@ use Rattle.memory.specs.Honest.{endRow, rangeRow}
 use Rattle.memory.specs.Filler.{rowNumbers}
 use Rattle.filler.specs.declared.steps.Cursor.{Cursor}
 use Rattle.index.specs.Values.{valuesIn, valueAt}
-use Rattle.filler.specs.Words.{laid}
+use Rattle.layout.specs.Laid.{laid}
 use Rattle.filler.specs.Ends.{cellEnds, valueEnds, ranges, ending, EndingFits}
 use Rattle.filler.proofs.Inputs.{values-cons, values-count}
-use Rattle.filler.proofs.Laid.{laid-put}
+use Rattle.layout.proofs.Laid.{laid-put}
 
 -- the words of an end row and of a range row
 end-words : (v o t n : ℕ) → _≡_ {A = List ℕ} (8 ∷ 0 ∷ 0 ∷ v ∷ o ∷ t ∷ n ∷ []) (rowNumbers (endRow v o t n ∷ []))

@@ -16,10 +16,11 @@ use Rattle.field.specs.Field.{p}
 use Rattle.memory.specs.Honest.{Input, bare}
 use Rattle.memory.specs.Filler.{inputsIn, Placed, placed}
 use Rattle.index.specs.Values.{valueAt}
-use Rattle.filler.specs.Words.{opAt, guardAt, addrAt, inputAt, copied, laid}
+use Rattle.layout.specs.Laid.{laid}
+use Rattle.filler.specs.Words.{opAt, guardAt, addrAt, inputAt, copied}
 use Rattle.filler.specs.Scan.{initFault, initsScanned}
 use Rattle.filler.proofs.Inputs.{inputs-cons}
-use Rattle.filler.proofs.Laid.{laid-put}
+use Rattle.layout.proofs.Laid.{laid-put}
 use Rattle.filler.proofs.Forms.{form-init}
 use Rattle.filler.proofs.Scanned.{inits-turn}
 use Rattle.filler.proofs.Onward.{copied-words}

@@ -1,5 +1,4 @@
 pub mod Inputs
-pub mod Laid
 pub mod EndRows
 pub mod Members
 pub mod Tree

@@ -24,10 +24,11 @@ use Rattle.memory.specs.Plain.{among}
 use Rattle.memory.specs.Honest.{Input, filledRow}
 use Rattle.memory.specs.Filler.{inputsIn, rowNumbers, inputFault, Placed, placed}
 use Rattle.index.specs.Values.{valueAt}
-use Rattle.filler.specs.Words.{opAt, guardAt, addrAt, inputAt, copied, laid}
+use Rattle.layout.specs.Laid.{laid}
+use Rattle.filler.specs.Words.{opAt, guardAt, addrAt, inputAt, copied}
 use Rattle.filler.specs.Scan.{emptied, refusal, leveled, faultAt, scanned}
 use Rattle.filler.proofs.Inputs.{inputs-cons}
-use Rattle.filler.proofs.Laid.{laid-put}
+use Rattle.layout.proofs.Laid.{laid-put}
 use Rattle.filler.proofs.Forms.{coded, input, Formed}
 use Rattle.filler.proofs.Scanned.{fault-by-words, scan-turn}
 

@@ -1,5 +1,6 @@
 -- The scan by words, one row at a time.
 --     fault-by-words    the fault of an operation by its words
+--     read-is    the words of an input row, as they are read
 --     fault-form, fault-possible    the fault of an operation by its form, and where it has none by that
 --     leveled-rise      a level rises by one at most
 --     inits-turn, scan-turn    the scan of what is left begins with the row there
@@ -20,8 +21,9 @@ use Rattle.memory.specs.declared.Phase.the-variants.{Operating}
 use Rattle.memory.specs.Names.{opCode}
 use Rattle.memory.specs.Rows.{opsDue}
 use Rattle.memory.specs.Filler.{opCoded, inputsIn, inputFault, placed}
-use Rattle.index.specs.Values.{valueAt}
-use Rattle.filler.specs.Words.{opAt, guardAt, addrAt, inputAt}
+use Rattle.words.specs.declared.Input as words
+use Rattle.words.specs.Inputs as inputs
+use Rattle.filler.specs.Words.{opAt, guardAt, inputOf, inputAt}
 use Rattle.filler.specs.Scan.{emptied, refusal, moved, leveled, faultAt, scanned, initFault, initsScanned}
 use Rattle.filler.proofs.Inputs.{inputs-cons}
 use Rattle.filler.proofs.Forms.{is-coded, input}
@@ -50,22 +52,27 @@ fault-by-words q m values level o g a v =
     let f = inputFault q m (opsDue m Operating) (input o g a v) in
     ap (λ (r : ℕ). cond (eqb f 0) r f) (refusal-coded m values level o g a v)
 
+-- the words of an input row, as they are read
+pub read-is : (rows : List ℕ) (k : ℕ) {row : words.Input} → row ≡ inputs.inputAt rows k → inputOf row ≡ inputAt rows k
+unfolding inputAt
+read-is rows k is = ap inputOf is
+
 -- the fault that the code finds of an operation by its form, or what is left to test
-module _ (m : Memory) (values : List ℕ) (level : ℕ) (ops : List ℕ) (k : ℕ) (op : Op) (f : ℕ) (is : op ≡ opCoded (opAt ops k)) (found : f ≡ inputFault p m (opsDue m Operating) (record { op = op; guard = guardAt ops k; addr = addrAt ops k; value = valueAt ops k })) where
+module _ (m : Memory) (values : List ℕ) (level : ℕ) (row : words.Input) {op : Op} {f : ℕ} (is : op ≡ opCoded (row .op)) (found : f ≡ inputFault p m (opsDue m Operating) (record { op = op; guard = row .guard; addr = row .addr; value = row .value })) where
   possible : ℕ
-  possible = refusal m values level (opAt ops k) (guardAt ops k) (addrAt ops k) (valueAt ops k)
+  possible = refusal m values level (row .op) (row .guard) (row .addr) (row .value)
 
-  fault-either : faultAt p m values level (inputAt ops k) ≡ cond (eqb f 0) possible f
-  unfolding inputAt possible
+  fault-either : faultAt p m values level (inputOf row) ≡ cond (eqb f 0) possible f
+  unfolding possible
   fault-either =
-      let same = found ∙ ap (λ (x : Op). inputFault p m (opsDue m Operating) (record { op = x; guard = guardAt ops k; addr = addrAt ops k; value = valueAt ops k })) is in
-      fault-by-words p m values level (opAt ops k) (guardAt ops k) (addrAt ops k) (valueAt ops k)
-      ∙ ap (λ (x : ℕ). cond (eqb x 0) (refusal m values level (opAt ops k) (guardAt ops k) (addrAt ops k) (valueAt ops k)) x) (sym same)
+      let same = found ∙ ap (λ (x : Op). inputFault p m (opsDue m Operating) (record { op = x; guard = row .guard; addr = row .addr; value = row .value })) is in
+      fault-by-words p m values level (row .op) (row .guard) (row .addr) (row .value)
+      ∙ ap (λ (x : ℕ). cond (eqb x 0) (refusal m values level (row .op) (row .guard) (row .addr) (row .value)) x) (sym same)
 
-  pub fault-form : (f ≡ 0 → ⊥) → f ≡ faultAt p m values level (inputAt ops k)
+  pub fault-form : (f ≡ 0 → ⊥) → f ≡ faultAt p m values level (inputOf row)
   fault-form n = sym (fault-either ∙ ap (λ (b : Bool). cond b possible f) (ne-eqb f 0 n))
 
-  pub fault-possible : f ≡ 0 → refusal m values level (opAt ops k) (guardAt ops k) (addrAt ops k) (valueAt ops k) ≡ faultAt p m values level (inputAt ops k)
+  pub fault-possible : f ≡ 0 → refusal m values level (row .op) (row .guard) (row .addr) (row .value) ≡ faultAt p m values level (inputOf row)
   unfolding possible
   fault-possible e = sym (fault-either ∙ ap (λ (b : Bool). cond b possible f) (eq-eqb f 0 e))
 

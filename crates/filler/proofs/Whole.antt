@@ -2,31 +2,31 @@
 --     blank-all       words that are all 0
 --     sized-limit, allowed-size, allowed-count    what an allowed size and count are
 --     refused-is, filled-is    a refused row, and a fill
---     away-unknown … away-scratch, not-away    what the library answers before it reads a row
+--     roomy, away-unknown, away, not-away    what the library answers before it reads a row
 --     init-words-count, op-words-count, parts-filled    the rows in two parts, as they are lent
 -- Assumes nothing.
 use Prim.Native.Nat.{ℕ, zero, suc, _+_, _-_, _*_, _≤_, _<_}
 use native.Mathlib.Omega.{arith}
 use native.Mathlib.Nat.{zero-add}
 use mathlib.Core.Bool.{Bool, true, false, cond, _&&_}
-use mathlib.Core.Option.{none, some}
+use mathlib.Core.Option.{Option, none, some}
 use mathlib.Core.Path.{_≡_, refl, sym, ap, _∙_}
 use mathlib.Core.List.{List, _++_, map}
-use lib.Dec.{leb}
+use lib.Dec.{eqb, leb}
 use lib.ListN.{length, getD, take, drop, replicate, length-drop}
 use lib.Seq.{length-take-le}
-use borrow.Author.Tests.{eq-eqb, ne-eqb, leb-true, eqb-true, le-leb, lt-leb}
+use borrow.Author.Tests.{eq-eqb, ne-eqb, leb-true, eqb-true}
 use Rattle.field.specs.Field.{p}
 use Rattle.memory.specs.declared.Memory.{Memory}
 use Rattle.memory.specs.declared.Memory.the-variants.{Ram, Rom, Set, Stack, Queue}
 use Rattle.memory.specs.Rows.{limit, sized, allowed}
 use Rattle.memory.specs.Honest.{Input, filledRows}
-use Rattle.memory.specs.Filler.{inputsIn, rowNumbers, rowsFault, memoryCoded, room, turnedAway, rowRefused, filledWith, fillRows, fillMemory, fillOf}
+use Rattle.memory.specs.Filler.{inputsIn, rowNumbers, rowsFault, memoryCoded, room, Filling, turnedAway, rowRefused, filledWith, fillRows, fillMemory, fillOf}
 use Rattle.filler.specs.declared.Filled.the-variants.{Rows, Refused}
-use Rattle.filler.specs.Answer.{answerOf, placeOf, countOf, fillingOf}
-use Rattle.filler.specs.Words.{laid}
+use Rattle.filler.specs.Answer.{answerOf, placeOf, countOf, fillingOf, awayBy, Roomy}
+use Rattle.layout.specs.Laid.{laid}
 use Rattle.filler.proofs.Inputs.{inputs-take, inputs-drop}
-use Rattle.filler.proofs.Laid.{part-lent}
+use Rattle.layout.proofs.Laid.{part-lent}
 
 pub blank-all : (n j : ℕ) → _≡_ {A = ℕ} (getD (replicate n 0) j 0) 0
 blank-all zero zero = refl
@@ -98,32 +98,47 @@ module _ (rows : List ℕ) (n t : ℕ) (all : length rows ≡ 4 * (n + t)) where
       let ops = ap inputsIn (part-lent rows (4 * n)) ∙ inputs-drop rows n (omega arith) in
       λ i. fillRows p m t (inits i) (ops i) out s
 
--- what the library answers before it reads a row
+-- what the library answers before it reads a row, by the four tests
+turned-either : (out s : List ℕ) (full : Filling) {number : ℕ} (a b c d : Bool) → number ≡ cond a (cond b (cond c (cond d 0 15) 14) 7) 4 → (number ≡ 0 → ⊥)
+    → turnedAway number out s ≡ cond a (cond b (cond c (cond d full (turnedAway 15 out s)) (turnedAway 14 out s)) (turnedAway 7 out s)) (turnedAway 4 out s)
+turned-either out s full true true true true is fault = absurd (fault is)
+turned-either out s full true true true false is fault = ap (λ (f : ℕ). turnedAway f out s) is
+turned-either out s full true true false d is fault = ap (λ (f : ℕ). turnedAway f out s) is
+turned-either out s full true false c d is fault = ap (λ (f : ℕ). turnedAway f out s) is
+turned-either out s full false b c d is fault = ap (λ (f : ℕ). turnedAway f out s) is
+
+all-four : (a b c d : Bool) → _≡_ {A = ℕ} (cond a (cond b (cond c (cond d 0 15) 14) 7) 4) 0 → (a ≡ true) × (b ≡ true) × (c ≡ true) × (d ≡ true)
+all-four true true true true e = (refl, refl, refl, refl)
+all-four true true true false e = absurd (omega (arith, e))
+all-four true true false d e = absurd (omega (arith, e))
+all-four true false c d e = absurd (omega (arith, e))
+all-four false b c d e = absurd (omega (arith, e))
+
+pub roomy : (m : Memory) (n t : ℕ) (rows out s : List ℕ) → awayBy m n t (length rows) (length out) (length s) ≡ 0 → Roomy m n t rows out s
+unfolding awayBy
+roomy m n t rows out s e =
+    let four = all-four (allowed m n t) (eqb (length rows) (4 * (n + t))) (leb (7 * room n t) (length out)) (leb (room n t) (length s)) e in
+    record {
+      proper = four .0;
+      all = eqb-true (length rows) (4 * (n + t)) (four .1);
+      out-room = leb-true (7 * room n t) (length out) (four .2);
+      scratch-room = leb-true (room n t) (length s) (four .3);
+    }
+
 module _ (k n t : ℕ) (rows out s : List ℕ) where
   pub away-unknown : memoryCoded k ≡ none → fillingOf (Refused 4 0) out s ≡ fillOf p k n t rows out s
   unfolding fillOf fillMemory turnedAway fillingOf answerOf placeOf countOf
   away-unknown e = simp e
 
   module _ (m : Memory) (known : memoryCoded k ≡ some m) where
-    pub away-size : allowed m n t ≡ false → fillingOf (Refused 4 0) out s ≡ fillOf p k n t rows out s
-    unfolding fillOf fillMemory turnedAway fillingOf answerOf placeOf countOf
-    away-size e = simp (known, e)
+    pub away : {number : ℕ} → number ≡ awayBy m n t (length rows) (length out) (length s) → (number ≡ 0 → ⊥) → fillingOf (Refused number 0) out s ≡ fillOf p k n t rows out s
+    unfolding fillOf fillMemory turnedAway fillingOf answerOf placeOf countOf awayBy
+    away is fault =
+        turned-either out s (fillRows p m t (take n (inputsIn rows)) (drop n (inputsIn rows)) out s) (allowed m n t) (eqb (length rows) (4 * (n + t))) (leb (7 * room n t) (length out)) (leb (room n t) (length s)) is fault
+        ∙ sym (ap (λ (o : Option Memory). fillMemory p o n t rows out s) known)
 
-    module _ (proper : allowed m n t ≡ true) where
-      pub away-rows : (length rows ≡ 4 * (n + t) → ⊥) → fillingOf (Refused 7 0) out s ≡ fillOf p k n t rows out s
-      unfolding fillOf fillMemory turnedAway fillingOf answerOf placeOf countOf
-      away-rows h = simp (known, proper, ne-eqb (length rows) (4 * (n + t)) h)
-
-      module _ (all : length rows ≡ 4 * (n + t)) where
-        pub away-out : length out < 7 * room n t → fillingOf (Refused 14 0) out s ≡ fillOf p k n t rows out s
-        unfolding fillOf fillMemory turnedAway fillingOf answerOf placeOf countOf
-        away-out h = simp (known, proper, eq-eqb (length rows) (4 * (n + t)) all, lt-leb (7 * room n t) (length out) h)
-
-        module _ (wide : 7 * room n t ≤ length out) where
-          pub away-scratch : length s < room n t → fillingOf (Refused 15 0) out s ≡ fillOf p k n t rows out s
-          unfolding fillOf fillMemory turnedAway fillingOf answerOf placeOf countOf
-          away-scratch h = simp (known, proper, eq-eqb (length rows) (4 * (n + t)) all, le-leb (7 * room n t) (length out) wide, lt-leb (room n t) (length s) h)
-
-          pub not-away : room n t ≤ length s → fillRows p m t (take n (inputsIn rows)) (drop n (inputsIn rows)) out s ≡ fillOf p k n t rows out s
-          unfolding fillOf fillMemory
-          not-away h = simp (known, proper, eq-eqb (length rows) (4 * (n + t)) all, le-leb (7 * room n t) (length out) wide, le-leb (room n t) (length s) h)
+    pub not-away : awayBy m n t (length rows) (length out) (length s) ≡ 0 → fillRows p m t (take n (inputsIn rows)) (drop n (inputsIn rows)) out s ≡ fillOf p k n t rows out s
+    unfolding fillOf fillMemory awayBy
+    not-away e =
+        let four = all-four (allowed m n t) (eqb (length rows) (4 * (n + t))) (leb (7 * room n t) (length out)) (leb (room n t) (length s)) e in
+        simp (known, four .0, four .1, four .2, four .3)

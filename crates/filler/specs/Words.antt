@@ -2,12 +2,12 @@
 -- Assumes nothing.
 use Prim.Native.Nat.{ℕ, _+_, _*_, _≤_}
 use mathlib.Core.Path.{_≡_}
-use mathlib.Core.List.{List, [], _∷_, _++_}
-use lib.ListN.{length, getD, take, drop, replicate}
-use Rattle.memory.specs.declared.Row.{Row}
+use mathlib.Core.List.{List, [], _∷_}
+use lib.ListN.{length, getD, replicate}
 use Rattle.memory.specs.Rows.{limit}
 use Rattle.memory.specs.Honest.{Input}
-use Rattle.memory.specs.Filler.{opCoded, rowNumbers}
+use Rattle.memory.specs.Filler.{opCoded}
+use Rattle.words.specs.declared.Input as words
 use Rattle.index.specs.Values.{valueAt, valuesIn}
 use Rattle.index.specs.Tree.{grown}
 
@@ -21,6 +21,10 @@ guardAt inputs k = getD inputs (4 * k + 1) 0
 abbrev pub addrAt : List ℕ → ℕ → ℕ
 addrAt inputs k = getD inputs (4 * k + 2) 0
 
+-- the input row that four words stand for
+abbrev pub inputOf : words.Input → Input
+inputOf row = record { op = opCoded (row .op); guard = row .guard; addr = row .addr; value = row .value }
+
 -- input row k
 unfoldable pub inputAt : List ℕ → ℕ → Input
 inputAt inputs k = record { op = opCoded (opAt inputs k); guard = guardAt inputs k; addr = addrAt inputs k; value = valueAt inputs k }
@@ -33,10 +37,6 @@ copied inputs k o t v = opAt inputs k ∷ guardAt inputs k ∷ addrAt inputs k �
 pub record RowFits (k : ℕ) (inputs out : List ℕ) : Type 0 where
   pub read : 4 * k + 4 ≤ length inputs
   pub room : 7 * k + 7 ≤ length out
-
--- the output with rows written from word a on
-unfoldable pub laid : List ℕ → ℕ → List Row → List ℕ
-laid out a rows = take a out ++ (rowNumbers rows ++ drop (a + length (rowNumbers rows)) out)
 
 -- words that hold the search tree over the elements of a set of size w
 pub record TreeIn (w : ℕ) (inits links : List ℕ) : Type 0 where

@@ -13,7 +13,8 @@ use Rattle.memory.specs.Honest.{operationsFilled}
 use Rattle.memory.specs.Filler.{inputsIn, room}
 use Rattle.filler.specs.declared.steps.Cursor.{Cursor}
 use Rattle.index.specs.Values.{valuesIn}
-use Rattle.filler.specs.Words.{laid, TreeIn}
+use Rattle.layout.specs.Laid.{laid}
+use Rattle.filler.specs.Words.{TreeIn}
 use Rattle.filler.specs.Ends.{ending, EndingFits}
 use Rattle.filler.specs.Scan.{scanned}
 

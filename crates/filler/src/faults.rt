@@ -5,6 +5,7 @@ use memory::Phase;
 use memory::numbers;
 use rules::inputs;
 use rules::ops;
+use words::Input;
 ghost use mathlib.Core.Bool.{true};
 ghost use mathlib.Core.List.{[]};
 ghost use mathlib.Core.Path.{_≡_};
@@ -14,7 +15,7 @@ ghost use Rattle.field.specs.Field.{p};
 ghost use Rattle.memory.specs.Filler.{inputsIn, rowsFault};
 ghost use Rattle.memory.specs.Rows.{sized, limit};
 ghost use Rattle.index.specs.Values.{valuesIn};
-ghost use Rattle.filler.specs.Words.{inputAt, TreeIn};
+ghost use Rattle.filler.specs.Words.{inputOf, TreeIn};
 ghost use Rattle.filler.specs.Scan.{emptied, Linked, refusal, moved, leveled, faultAt, scanned, initFault, initsScanned};
 
 // The number and the place of a fault; 0 and 0 where there is none.
@@ -64,26 +65,16 @@ fn missing(n: usize, inits: &[u32], links: &[u32], value: u32) -> u32
 }
 
 // 11, 12 and 13, at a level.
-fn refusal(
-    m: Memory,
-    n: usize,
-    level: usize,
-    inits: &[u32],
-    links: &[u32],
-    op: u32,
-    guard: u32,
-    addr: u32,
-    value: u32,
-) -> u32
+fn refusal(m: Memory, n: usize, level: usize, row: Input, inits: &[u32], links: &[u32]) -> u32
     requires { ⌜ Linked m n (now inits) (now links) ⌝ }
-    ensures { λ r. ⌜ r ≡ refusal m (valuesIn (now (inits .entry))) level op guard addr value ⌝ }
+    ensures { λ r. ⌜ r ≡ refusal m (valuesIn (now (inits .entry))) level (row .op) (row .guard) (row .addr) (row .value) ⌝ }
 {
     match m {
-        Memory::Ram => outside(addr, level),
-        Memory::Rom => outside(addr, level),
-        Memory::Set => missing(n, inits, links, value),
-        Memory::Stack => emptied(op == PUSH, guard, level),
-        Memory::Queue => emptied(op == ENQUEUE, guard, level),
+        Memory::Ram => outside(row.addr, level),
+        Memory::Rom => outside(row.addr, level),
+        Memory::Set => missing(n, inits, links, row.value),
+        Memory::Stack => emptied(row.op == PUSH, row.guard, level),
+        Memory::Queue => emptied(row.op == ENQUEUE, row.guard, level),
     }
 }
 
@@ -116,18 +107,17 @@ fn leveled(m: Memory, level: usize, op: u32, guard: u32) -> usize
 }
 
 // The fault of an init row.
-fn init_fault(k: usize, inits: &[u32]) -> u32
-    requires { ⌜ 4 * k + 4 ≤ length (now inits) ⌝ }
-    ensures { λ r. ⌜ r ≡ initFault p (inputAt (now (inits .entry)) k) ⌝ }
+fn init_fault(row: Input) -> u32
+    ensures { λ r. ⌜ r ≡ initFault p (inputOf row) ⌝ }
 {
-    let from = 4 * k;
+    let op = ops::coded(row.op);
     inputs::fault(
         Memory::Ram,
         Phase::Starting,
-        ops::coded(inits[from]),
-        inits[from + 1],
-        inits[from + 2],
-        inits[from + 3],
+        op,
+        row.guard,
+        row.addr,
+        row.value,
     )
 }
 
@@ -136,25 +126,19 @@ fn operation_fault(
     m: Memory,
     n: usize,
     level: usize,
-    k: usize,
+    row: Input,
     inits: &[u32],
     links: &[u32],
-    ops: &[u32],
 ) -> u32
-    requires { ⌜ 4 * k + 4 ≤ length (now ops) ⌝ }
     requires { ⌜ Linked m n (now inits) (now links) ⌝ }
-    ensures { λ r. ⌜ r ≡ faultAt p m (valuesIn (now (inits .entry))) level (inputAt (now (ops .entry)) k) ⌝ }
+    ensures { λ r. ⌜ r ≡ faultAt p m (valuesIn (now (inits .entry))) level (inputOf row) ⌝ }
 {
-    let from = 4 * k;
-    let op = ops[from];
-    let guard = ops[from + 1];
-    let addr = ops[from + 2];
-    let value = ops[from + 3];
-    let fault = inputs::fault(m, Phase::Operating, ops::coded(op), guard, addr, value);
+    let op = ops::coded(row.op);
+    let fault = inputs::fault(m, Phase::Operating, op, row.guard, row.addr, row.value);
     if fault != 0 {
         return fault;
     }
-    refusal(m, n, level, inits, links, op, guard, addr, value)
+    refusal(m, n, level, row, inits, links)
 }
 
 // The first fault of the init rows.
@@ -164,7 +148,7 @@ pub(crate) fn scan_inits(n: usize, inits: &[u32]) -> Fault
 {
     let mut k = 0;
     while k < n {
-        let number = init_fault(k, inits);
+        let number = init_fault(words::read(inits, k));
         if number != 0 {
             return Fault {
                 number,
@@ -195,14 +179,15 @@ pub(crate) fn scan_operations(
     let mut level = n;
     let mut k = 0;
     while k < t {
-        let number = operation_fault(m, n, level, k, inits, links, ops);
+        let row = words::read(ops, k);
+        let number = operation_fault(m, n, level, row, inits, links);
         if number != 0 {
             return Fault {
                 number,
                 place: n + k + 1,
             };
         }
-        level = leveled(m, level, ops[4 * k], ops[4 * k + 1]);
+        level = leveled(m, level, row.op, row.guard);
         k += 1;
     }
     Fault {

@@ -1,4 +1,5 @@
 // Operations to advice: the filler's library. Rows are numbers in slices: 4 words an input row, 7 words an output row.
+use faults::Fault;
 use memory::Memory;
 use memory::numbers;
 use rules::sizes;
@@ -8,15 +9,18 @@ mod faults;
 mod steps;
 mod write;
 
+ghost use mathlib.Core.Bool.{true};
 ghost use mathlib.Core.List.{map};
 ghost use mathlib.Core.Path.{_≡_};
 ghost use Prim.Native.Nat.{_+_, _*_, _≤_};
 ghost use lib.ListN.{length, take, drop, replicate};
 ghost use Rattle.field.specs.Field.{p};
 ghost use Rattle.memory.specs.Honest.{bare, filledRows};
-ghost use Rattle.memory.specs.Filler.{inputsIn, memoryCoded, fillRows, fillOf};
-ghost use Rattle.filler.specs.Answer.{fillingOf, knownOf, Roomy};
-ghost use Rattle.filler.specs.Words.{laid};
+ghost use Rattle.memory.specs.Rows.{sized, limit};
+ghost use Rattle.memory.specs.Filler.{inputsIn, memoryCoded, rowsFault, fillRows, fillOf};
+ghost use Rattle.index.specs.Values.{valuesIn};
+ghost use Rattle.filler.specs.Answer.{fillingOf, knownOf, awayBy, Roomy};
+ghost use Rattle.layout.specs.Laid.{laid};
 ghost use Rattle.filler.specs.Scan.{initsScanned};
 ghost use Rattle.filler.specs.Write.{Fillable, Prepared};
 
@@ -53,7 +57,7 @@ fn copy_inits(n: usize, inits: &[u32], out: &mut [u32])
 {
     let mut k = 0;
     while k < n {
-        words::copy(k, inits, 0, 0, 0, out);
+        words::put(k, words::read(inits, k), 0, 0, 0, out);
         k += 1;
     }
 }
@@ -83,6 +87,26 @@ fn write_rows(
     n + more
 }
 
+// The first fault of the rows, found with the scratch words as they are before the first operation.
+fn first_fault(
+    m: Memory,
+    n: usize,
+    t: usize,
+    inits: &[u32],
+    ops: &[u32],
+    scratch: &mut [u32],
+) -> Fault
+    requires { ⌜ (4 * n ≡ length (now inits)) × (4 * t ≡ length (now ops)) × (n ≤ limit) × (t ≤ limit) × (n ≤ length (now scratch)) ⌝ }
+    requires { ⌜ sized m n ≡ true ⌝ }
+    ensures number { λ r. ⌜ r .number ≡ rowsFault p m (valuesIn (now (inits .entry))) 1 (inputsIn (now (inits .entry))) (inputsIn (now (ops .entry))) .number ⌝ }
+    ensures place { λ r. ⌜ r .place ≡ rowsFault p m (valuesIn (now (inits .entry))) 1 (inputsIn (now (inits .entry))) (inputsIn (now (ops .entry))) .place ⌝ }
+    ensures prepared { λ _. ⌜ Prepared m n (now (inits .entry)) (now (scratch .exit)) ⌝ }
+{
+    words::clear(scratch);
+    write::prepare(m, n, inits, scratch);
+    faults::scan(m, n, t, inits, &scratch[..n], ops)
+}
+
 // The filler on rows that are as many as they should be, with room.
 fn fill_rows(
     m: Memory,
@@ -98,15 +122,35 @@ fn fill_rows(
     let from = 4 * n;
     let inits = &rows[..from];
     let ops = &rows[from..];
-    words::clear(scratch);
-    write::prepare(m, n, inits, scratch);
-    let fault = faults::scan(m, n, t, inits, &scratch[..n], ops);
+    let fault = first_fault(m, n, t, inits, ops, scratch);
     if fault.number != 0 {
-        words::clear(out);
-        words::clear(scratch);
+        words::clear_both(out, scratch);
         return Filled::Refused(fault.number, fault.place);
     }
     Filled::Rows(write_rows(m, n, t, inits, ops, out, scratch))
+}
+
+// 4, 7, 14 and 15, by how long the lent slices are; 0 where there is none.
+fn turned_away(m: Memory, size: u32, count: u32, rows: usize, out: usize, scratch: usize) -> u32
+    ensures { λ r. ⌜ r ≡ awayBy m size count rows out scratch ⌝ }
+{
+    if !sizes::allowed(m, size, count) {
+        return numbers::NOT_ALLOWED;
+    }
+    let n = size as usize;
+    let t = count as usize;
+    if rows != 4 * (n + t) {
+        return numbers::NOT_COMPLETE;
+    }
+    let room = 2 * n + 3 * t;
+    if out < 7 * room {
+        return numbers::OUTPUT_SHORT;
+    }
+    if scratch < room {
+        numbers::SCRATCH_SHORT
+    } else {
+        0
+    }
 }
 
 // "The filler's library tests 4, 7 (rows not size + count), 14, 15, place 0, buffers as found; then each row."
@@ -123,20 +167,9 @@ pub fn fill(
     let Known::Is(m) = memory_of(memory) else {
         return Filled::Refused(numbers::NOT_ALLOWED, 0);
     };
-    if !sizes::allowed(m, size, count) {
-        return Filled::Refused(numbers::NOT_ALLOWED, 0);
+    let number = turned_away(m, size, count, rows.len(), out.len(), scratch.len());
+    if number != 0 {
+        return Filled::Refused(number, 0);
     }
-    let n = size as usize;
-    let t = count as usize;
-    if rows.len() != 4 * (n + t) {
-        return Filled::Refused(numbers::NOT_COMPLETE, 0);
-    }
-    let room = 2 * n + 3 * t;
-    if out.len() < 7 * room {
-        return Filled::Refused(numbers::OUTPUT_SHORT, 0);
-    }
-    if scratch.len() < room {
-        return Filled::Refused(numbers::SCRATCH_SHORT, 0);
-    }
-    fill_rows(m, n, t, rows, out, scratch)
+    fill_rows(m, size as usize, count as usize, rows, out, scratch)
 }

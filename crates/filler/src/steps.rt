@@ -3,6 +3,7 @@
 // Of w cells the contents lie in the scratch words from 0 on, the times from w on, and the lookups of each age from 2w on, of age 1 first. A rom and
 // a set keep no cells: the lookups of each key lie from w on. A set keeps its search tree in the first w words.
 use memory::Memory;
+use words::Input;
 ghost use mathlib.Core.Bool.{cond};
 ghost use mathlib.Core.Path.{_≡_};
 ghost use Prim.Native.Nat.{_+_, _*_, _<_};
@@ -10,7 +11,7 @@ ghost use lib.Dec.{eqb};
 ghost use lib.ListN.{length, getD, set};
 ghost use Rattle.memory.specs.Rows.{limit};
 ghost use Rattle.filler.specs.Words.{RowFits};
-ghost use Rattle.filler.specs.Steps.{Turned, Advised, ramTold, Timely, romTold, RomReady, setTold, SetReady, pushTold, PushReady, popTold, PopReady, enqueueTold, EnqueueReady, dequeueTold, DequeueReady, toldBy, ReadyBy, turn, advanced, Ready};
+ghost use Rattle.filler.specs.Steps.{Turned, Advised, ramTold, Timely, romTold, RomReady, setTold, SetReady, pushTold, PushReady, popTold, PopReady, enqueueTold, EnqueueReady, dequeueTold, DequeueReady, stackTold, StackReady, queueTold, QueueReady, toldBy, ReadyBy, turn, advanced, Ready};
 
 // The clock, and where the cells begin and end that a stack or a queue holds.
 pub struct Cursor {
@@ -50,19 +51,18 @@ fn chosen(guard: u32, value: u32, old: u32) -> u32
 }
 
 // An access at a clock.
-fn ram(w: usize, at: Cursor, guard: u32, addr: u32, value: u32, scratch: &mut [u32]) -> Advice
-    requires { ⌜ Timely w at addr (now scratch) ⌝ }
-    ensures { λ r. ⌜ Advised (ramTold w at guard addr value (now (scratch .entry))) r (now (scratch .exit)) ⌝ }
+fn ram(w: usize, at: Cursor, row: Input, scratch: &mut [u32]) -> Advice
+    requires { ⌜ Timely w at (row .addr) (now scratch) ⌝ }
+    ensures { λ r. ⌜ Advised (ramTold w at (row .guard) (row .addr) (row .value) (now (scratch .entry))) r (now (scratch .exit)) ⌝ }
 {
-    let clock = at.clock;
-    let cell = addr as usize;
+    let cell = row.addr as usize;
     let old = scratch[cell];
     let time = scratch[w + cell];
-    let version = looked(2 * w + (clock - time - 1) as usize, scratch);
-    scratch[cell] = chosen(guard, value, old);
-    scratch[w + cell] = clock;
+    let version = looked(2 * w + (at.clock - time - 1) as usize, scratch);
+    scratch[cell] = chosen(row.guard, row.value, old);
+    scratch[w + cell] = at.clock;
     let next = Cursor {
-        clock: clock + 1,
+        clock: at.clock + 1,
         head: at.head,
         tail: at.tail,
     };
@@ -221,37 +221,39 @@ fn dequeue(at: Cursor, guard: u32, scratch: &[u32]) -> Advice
     }
 }
 
+// A push or a pop.
+fn stack(w: usize, at: Cursor, row: Input, scratch: &mut [u32]) -> Advice
+    requires { ⌜ StackReady w at (row .op) (row .guard) (now scratch) ⌝ }
+    ensures { λ r. ⌜ Advised (stackTold w at (row .op) (row .guard) (row .value) (now (scratch .entry))) r (now (scratch .exit)) ⌝ }
+{
+    if row.op == PUSH {
+        return push(w, at, row.guard, row.value, scratch);
+    }
+    pop(w, at, row.guard, scratch)
+}
+
+// An enqueue or a dequeue.
+fn queue(at: Cursor, row: Input, scratch: &mut [u32]) -> Advice
+    requires { ⌜ QueueReady at (row .op) (row .guard) (now scratch) ⌝ }
+    ensures { λ r. ⌜ Advised (queueTold at (row .op) (row .guard) (row .value) (now (scratch .entry))) r (now (scratch .exit)) ⌝ }
+{
+    if row.op == ENQUEUE {
+        return enqueue(at, row.guard, row.value, scratch);
+    }
+    dequeue(at, row.guard, scratch)
+}
+
 // The advice of an operation of a memory of w cells.
-fn advise(
-    m: Memory,
-    w: usize,
-    at: Cursor,
-    op: u32,
-    guard: u32,
-    addr: u32,
-    value: u32,
-    inits: &[u32],
-    scratch: &mut [u32],
-) -> Advice
-    requires { ⌜ ReadyBy m w at op guard addr value (now inits) (now scratch) ⌝ }
-    ensures { λ r. ⌜ Advised (toldBy m w at op guard addr value (now (inits .entry)) (now (scratch .entry))) r (now (scratch .exit)) ⌝ }
+fn advise(m: Memory, w: usize, at: Cursor, row: Input, inits: &[u32], scratch: &mut [u32]) -> Advice
+    requires { ⌜ ReadyBy m w at (row .op) (row .guard) (row .addr) (row .value) (now inits) (now scratch) ⌝ }
+    ensures { λ r. ⌜ Advised (toldBy m w at (row .op) (row .guard) (row .addr) (row .value) (now (inits .entry)) (now (scratch .entry))) r (now (scratch .exit)) ⌝ }
 {
     match m {
-        Memory::Ram => ram(w, at, guard, addr, value, scratch),
-        Memory::Rom => rom(w, at, addr, inits, scratch),
-        Memory::Set => member(w, at, value, inits, scratch),
-        Memory::Stack => {
-            if op == PUSH {
-                return push(w, at, guard, value, scratch);
-            }
-            pop(w, at, guard, scratch)
-        }
-        Memory::Queue => {
-            if op == ENQUEUE {
-                return enqueue(at, guard, value, scratch);
-            }
-            dequeue(at, guard, scratch)
-        }
+        Memory::Ram => ram(w, at, row, scratch),
+        Memory::Rom => rom(w, at, row.addr, inits, scratch),
+        Memory::Set => member(w, at, row.value, inits, scratch),
+        Memory::Stack => stack(w, at, row, scratch),
+        Memory::Queue => queue(at, row, scratch),
     }
 }
 
@@ -271,13 +273,9 @@ pub fn step(
     ensures turned { λ _. ⌜ Turned k (turn m w k at (now (inits .entry)) (now (ops .entry)) (now (scratch .entry))) (now (out .entry)) (now (out .exit)) (now (scratch .exit)) ⌝ }
     ensures next { λ r. ⌜ r ≡ advanced m k at (now (ops .entry)) ⌝ }
 {
-    let from = 4 * k;
-    let op = ops[from];
-    let guard = ops[from + 1];
-    let addr = ops[from + 2];
-    let value = ops[from + 3];
-    let advice = advise(m, w, at, op, guard, addr, value, inits, scratch);
-    words::copy(k, ops, advice.old, advice.time, advice.version, out);
+    let row = words::read(ops, k);
+    let advice = advise(m, w, at, row, inits, scratch);
+    words::put(k, row, advice.old, advice.time, advice.version, out);
     let next = advice.next;
     next
 }

@@ -10,7 +10,7 @@ ghost use Rattle.memory.specs.Rows.{limit};
 ghost use Rattle.memory.specs.Filler.{inputsIn};
 ghost use Rattle.memory.specs.Honest.{operationsFilled};
 ghost use Rattle.index.specs.Values.{valuesIn};
-ghost use Rattle.filler.specs.Words.{laid};
+ghost use Rattle.layout.specs.Laid.{laid};
 ghost use Rattle.filler.specs.Write.{widthOf, Fillable, Blank, Filled-in, TreeBuilt, Prepared, Ended};
 
 // How many cells the scratch words hold.

@@ -1,6 +1,6 @@
 -- Words that are written one after the other.
 --     sets-past    past the end of a slice nothing is written
---     seven        seven words, one after the other
+--     four, three, four-three    four words, three words, and three after four, one after the other
 -- Assumes nothing.
 use Prim.Native.Nat.{ℕ, suc, _+_, _≤_}
 use native.Mathlib.Omega.{arith}
@@ -13,15 +13,25 @@ pub sets-past : (vs l : List ℕ) (i : ℕ) → length l ≤ i → sets l i vs �
 sets-past [] l i h = refl
 sets-past (v ∷ vs) l i h = ap (λ (r : List ℕ). sets r (suc i) vs) (set-out l i v h) ∙ sets-past vs l (suc i) (omega arith)
 
-pub seven :
-    (ws : List ℕ) (at a b c d e f g : ℕ) {t u v w x y r : List ℕ} → t ≡ set ws at a → u ≡ set t (at + 1) b → v ≡ set u (at + 2) c → w ≡ set v (at + 3) d
-    → x ≡ set w (at + 4) e → y ≡ set x (at + 5) f → r ≡ set y (at + 6) g
-    → r ≡ sets ws at (a ∷ b ∷ c ∷ d ∷ e ∷ f ∷ g ∷ [])
-seven ws at a b c d e f g p1 p2 p3 p4 p5 p6 p7 =
+pub four :
+    (ws : List ℕ) (at a b c d : ℕ) {t u v r : List ℕ} → t ≡ set ws at a → u ≡ set t (at + 1) b → v ≡ set u (at + 2) c → r ≡ set v (at + 3) d
+    → r ≡ sets ws at (a ∷ b ∷ c ∷ d ∷ [])
+four ws at a b c d p1 p2 p3 p4 =
     let one : at + 1 ≡ suc at = omega arith in
     let two : at + 2 ≡ suc (suc at) = omega arith in
     let three : at + 3 ≡ suc (suc (suc at)) = omega arith in
-    let four : at + 4 ≡ suc (suc (suc (suc at))) = omega arith in
-    let five : at + 5 ≡ suc (suc (suc (suc (suc at)))) = omega arith in
-    let six : at + 6 ≡ suc (suc (suc (suc (suc (suc at))))) = omega arith in
-    p7 ∙ rw (p6, p5, p4, p3, p2, p1, one, two, three, four, five, six) refl
+    p4 ∙ rw (p3, p2, p1, one, two, three) refl
+
+pub three :
+    (ws : List ℕ) (at a b c : ℕ) {t u r : List ℕ} → t ≡ set ws at a → u ≡ set t (at + 1) b → r ≡ set u (at + 2) c → r ≡ sets ws at (a ∷ b ∷ c ∷ [])
+three ws at a b c p1 p2 p3 =
+    let one : at + 1 ≡ suc at = omega arith in
+    let two : at + 2 ≡ suc (suc at) = omega arith in
+    p3 ∙ rw (p2, p1, one, two) refl
+
+pub four-three :
+    (ws : List ℕ) (at a b c d e f g : ℕ) {t r : List ℕ} → t ≡ sets ws at (a ∷ b ∷ c ∷ d ∷ []) → r ≡ sets t (at + 4) (e ∷ f ∷ g ∷ [])
+    → r ≡ sets ws at (a ∷ b ∷ c ∷ d ∷ e ∷ f ∷ g ∷ [])
+four-three ws at a b c d e f g p1 p2 =
+    let next : at + 4 ≡ suc (suc (suc (suc at))) = omega arith in
+    p2 ∙ rw (p1, next) refl

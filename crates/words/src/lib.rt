@@ -2,9 +2,10 @@
 // nothing is written.
 ghost use mathlib.Core.Path.{_≡_};
 ghost use mathlib.Core.List.{[], _∷_};
-ghost use Prim.Native.Nat.{_+_, _*_};
+ghost use Prim.Native.Nat.{_*_, _≤_};
 ghost use lib.ListN.{length, getD, set, replicate};
 ghost use lib.Seq.{sets};
+ghost use Rattle.words.specs.Inputs.{inputAt};
 
 // Every word becomes 0.
 pub fn clear(words: &mut [u32])
@@ -15,6 +16,15 @@ pub fn clear(words: &mut [u32])
         words[i] = 0;
         i += 1;
     }
+}
+
+// Every word of both becomes 0: "whole output and scratch 0".
+pub fn clear_both(out: &mut [u32], scratch: &mut [u32])
+    ensures output { λ _. ⌜ now (out .exit) ≡ replicate (length (now (out .entry))) 0 ⌝ }
+    ensures scratch { λ _. ⌜ now (scratch .exit) ≡ replicate (length (now (scratch .entry))) 0 ⌝ }
+{
+    clear(out);
+    clear(scratch);
 }
 
 // The word at a place.
@@ -33,44 +43,64 @@ pub fn store(words: &mut [u32], at: usize, word: u32)
     }
 }
 
-// Writes output row k.
-pub fn put(
-    k: usize,
-    op: u32,
-    guard: u32,
-    addr: u32,
-    value: u32,
-    old: u32,
-    time: u32,
-    version: u32,
-    out: &mut [u32],
-)
-    ensures { λ _. ⌜ now (out .exit) ≡ sets (now (out .entry)) (7 * k) (op ∷ guard ∷ addr ∷ value ∷ old ∷ time ∷ version ∷ []) ⌝ }
+// The words of an input row, in the columns `op,guard,addr,value`.
+pub struct Input {
+    pub op: u32,
+    pub guard: u32,
+    pub addr: u32,
+    pub value: u32,
+}
+
+// Reads input row k.
+pub fn read(rows: &[u32], k: usize) -> Input
+    ensures { λ r. ⌜ r ≡ inputAt (now (rows .entry)) k ⌝ }
+{
+    if rows.len() <= k {
+        return Input {
+            op: 0,
+            guard: 0,
+            addr: 0,
+            value: 0,
+        };
+    }
+    let from = 4 * k;
+    Input {
+        op: word(rows, from),
+        guard: word(rows, from + 1),
+        addr: word(rows, from + 2),
+        value: word(rows, from + 3),
+    }
+}
+
+// "Op, guard, addr and value are copied": the first four words of an output row, from a place on.
+fn put_input(at: usize, row: Input, out: &mut [u32])
+    requires { ⌜ at ≤ 7 * length (now out) ⌝ }
+    ensures { λ _. ⌜ now (out .exit) ≡ sets (now (out .entry)) at (row .op ∷ row .guard ∷ row .addr ∷ row .value ∷ []) ⌝ }
+{
+    store(out, at, row.op);
+    store(out, at + 1, row.guard);
+    store(out, at + 2, row.addr);
+    store(out, at + 3, row.value);
+}
+
+// The advice: the last three words of an output row, from a place on.
+fn put_advice(at: usize, old: u32, time: u32, version: u32, out: &mut [u32])
+    requires { ⌜ at ≤ 7 * length (now out) ⌝ }
+    ensures { λ _. ⌜ now (out .exit) ≡ sets (now (out .entry)) at (old ∷ time ∷ version ∷ []) ⌝ }
+{
+    store(out, at, old);
+    store(out, at + 1, time);
+    store(out, at + 2, version);
+}
+
+// Writes output row k: an input row, and the advice that it gets.
+pub fn put(k: usize, row: Input, old: u32, time: u32, version: u32, out: &mut [u32])
+    ensures { λ _. ⌜ now (out .exit) ≡ sets (now (out .entry)) (7 * k) (row .op ∷ row .guard ∷ row .addr ∷ row .value ∷ old ∷ time ∷ version ∷ []) ⌝ }
 {
     if out.len() <= k {
         return;
     }
     let at = 7 * k;
-    store(out, at, op);
-    store(out, at + 1, guard);
-    store(out, at + 2, addr);
-    store(out, at + 3, value);
-    store(out, at + 4, old);
-    store(out, at + 5, time);
-    store(out, at + 6, version);
-}
-
-// "Op, guard, addr and value are copied": writes output row k, with the advice that input row k gets.
-pub fn copy(k: usize, inputs: &[u32], old: u32, time: u32, version: u32, out: &mut [u32])
-    ensures { λ _. ⌜ now (out .exit) ≡ sets (now (out .entry)) (7 * k) (getD (now (inputs .entry)) (4 * k) 0 ∷ getD (now (inputs .entry)) (4 * k + 1) 0 ∷ getD (now (inputs .entry)) (4 * k + 2) 0 ∷ getD (now (inputs .entry)) (4 * k + 3) 0 ∷ old ∷ time ∷ version ∷ []) ⌝ }
-{
-    if out.len() <= k {
-        return;
-    }
-    let from = 4 * k;
-    let op = word(inputs, from);
-    let guard = word(inputs, from + 1);
-    let addr = word(inputs, from + 2);
-    let value = word(inputs, from + 3);
-    put(k, op, guard, addr, value, old, time, version, out);
+    put_input(at, row, out);
+    put_advice(at + 4, old, time, version, out);
 }

@@ -3,14 +3,16 @@
 use Prim.Native.Nat.{ℕ, _+_, _*_, _≤_, _-_}
 use native.Mathlib.Omega.{arith}
 use mathlib.Core.Path.{_≡_, refl, sym, ap, _∙_}
-use mathlib.Core.List.{List, map}
+use mathlib.Core.List.{List, [], _∷_, map}
 use borrow.Author.Needs.{needs}
 use lib.ListN.{length, drop, drop-of-length-le}
+use lib.Seq.{sets}
 use Rattle.memory.specs.Honest.{Input, bare}
 use Rattle.memory.specs.Filler.{inputsIn}
-use Rattle.filler.specs.Words.{laid}
+use Rattle.words.specs.declared.Input as words
+use Rattle.layout.specs.Laid.{laid}
 use Rattle.filler.proofs.Inputs.{inputs-count}
-use Rattle.filler.proofs.Laid.{laid-none}
+use Rattle.layout.proofs.Laid.{laid-none}
 use Rattle.filler.proofs.InitRows.{CleanInits, clean-init, init-laid}
 use Rattle.filler.proofs.copy_inits.Statement.{statement}
 use Rattle.filler.proofs.copy_inits.Tie as tie
@@ -24,8 +26,11 @@ abbrev μ-loop : tie.MeasureT-loop
 loop-holds : tie.Need-loop-holds Inv-loop μ-loop
 loop-holds c = (omega arith, refl, refl, record { place = 1; none = c .before .before .pre .1 })
 
-copy-requires : tie.Need-copy-requires Inv-loop μ-loop
-copy-requires c κs = search needs
+read-requires : tie.Need-read-requires Inv-loop μ-loop
+read-requires c κs = search needs
+
+put-requires : tie.Need-put-requires Inv-loop μ-loop
+put-requires c κs = search needs
 
 add-k : tie.Need-add-k Inv-loop μ-loop
 add-k c = search needs
@@ -34,13 +39,14 @@ loop-less : tie.Need-loop-less Inv-loop μ-loop
 loop-less c = search needs
 
 loop-again : tie.Need-loop-again Inv-loop μ-loop
-loop-again c = let inits = c .before .before .before .before .before .before .before .before .args .inits .now in
-    let k = c .before .before .before .before .before .loop .k in
-    let inv = c .before .before .before .before .before .loop .inv in
+loop-again c = let inits = c .before .before .before .before .before .before .before .before .before .args .inits .now in
+    let k = c .before .before .before .before .before .before .loop .k in
+    let inv = c .before .before .before .before .before .before .loop .inv in
+    let written = c .before .before .put .ensures ∙ ap (λ (r : words.Input). sets (c .before .before .before .before .before .before .loop .out) (7 * k) (r .op ∷ r .guard ∷ r .addr ∷ r .value ∷ 0 ∷ 0 ∷ 0 ∷ [])) (c .before .before .before .before .read .ensures) in
     let clean = clean-init inits k (omega arith) (inv .3) in (
       omega arith,
       omega arith,
-      inv .2 ∙ init-laid inits (c .before .before .before .before .before .loop .out) k (omega arith) (omega arith) (clean .here) ∙ ap (λ (l : List ℕ). laid l (7 * (k + 1)) (map bare (drop (k + 1) (inputsIn inits)))) (sym (c .before .before .copy .ensures)),
+      inv .2 ∙ init-laid inits (c .before .before .before .before .before .before .loop .out) k (omega arith) (omega arith) (clean .here) ∙ ap (λ (l : List ℕ). laid l (7 * (k + 1)) (map bare (drop (k + 1) (inputsIn inits)))) (sym written),
       clean .later,
     )
 
@@ -60,7 +66,8 @@ copy-inits-spec =
     Inv-loop
     μ-loop
     loop-holds
-    copy-requires
+    read-requires
+    put-requires
     add-k
     loop-less
     loop-again

@@ -2,17 +2,14 @@
 -- Assumes nothing.
 use Prim.Native.Nat.{ℕ, _*_}
 use native.Mathlib.Omega.{arith}
-use mathlib.Core.List.{List}
-use mathlib.Core.Path.{_≡_, sym, ap, _∙_}
-use lib.ListN.{length, getD, replicate, length-drop}
-use lib.Seq.{length-take-le}
+use mathlib.Core.Path.{sym, ap, _∙_}
+use lib.ListN.{replicate, length-drop}
 use Rattle.field.specs.Field.{p}
 use Rattle.memory.specs.Filler.{inputsIn, room}
 use Rattle.index.specs.Values.{valuesIn}
 use Rattle.filler.proofs.Inputs.{inputs-count, values-count}
 use Rattle.filler.proofs.FirstFault.{clean-inits, clean-operations}
-use Rattle.filler.proofs.Tree.{prepared-tree}
-use Rattle.filler.proofs.Whole.{blank-all, sized-limit, allowed-size, allowed-count, refused-is, filled-is, initWords, opWords, init-words-count, op-words-count, parts-filled}
+use Rattle.filler.proofs.Whole.{sized-limit, allowed-size, allowed-count, refused-is, filled-is, initWords, opWords, init-words-count, op-words-count, parts-filled}
 use borrow.Author.Needs.{needs}
 use Rattle.filler.proofs.fill_rows.Statement.{statement}
 use Rattle.filler.proofs.fill_rows.Tie as tie
@@ -21,7 +18,7 @@ mul-from : tie.Need-mul-from
 mul-from c = search needs
 
 slice-aggregate-inits : tie.Need-slice-aggregate-inits
-slice-aggregate-inits c = init-words-count (c .before .before .before .before .args .rows .now) (c .before .before .before .before .args .n) (c .before .before .before .before .args .t) (c .before .before .before .before .pre .all)
+slice-aggregate-inits c = let at = c .before .before .before .before .args in init-words-count (at .rows .now) (at .n) (at .t) (c .before .before .before .before .pre .all)
 
 mul-ops : tie.Need-mul-ops
 mul-ops c = search needs
@@ -35,50 +32,26 @@ part-ops-start c = search needs
 part-ops-end : tie.Need-part-ops-end
 part-ops-end c = search needs
 
-clear-requires : tie.Need-clear-requires
-clear-requires c κs = search needs
-
-prepare-requires : tie.Need-prepare-requires
+first-fault-requires : tie.Need-first-fault-requires
 unfolding room
-prepare-requires c κs = let at = c .before .before .before .before .before .before .before .before .before .before .args in (
-  (
-    init-words-count (at .rows .now) (at .n) (at .t) (c .before .before .before .before .before .before .before .before .before .before .pre .all),
-    omega (arith, c .before .before .before .clear .kept, c .before .before .before .before .before .before .before .before .before .before .pre .scratch-room),
-    sized-limit (at .m) (at .n) (allowed-size (at .m) (at .n) (at .t) (c .before .before .before .before .before .before .before .before .before .before .pre .proper)),
-  ),
-  (λ j. ap (λ (s : List ℕ). getD s j 0) (c .before .before .before .clear .ensures) ∙ blank-all (length (at .scratch .now)) j),
-)
-
-slice-reshare-prefix-scan : tie.Need-slice-reshare-prefix-scan
-unfolding room
-slice-reshare-prefix-scan c = omega (arith, c .before .before .prepare .kept, c .before .before .before .before .before .before .clear .kept, c .before .before .before .before .before .before .before .before .before .before .before .before .before .pre .scratch-room)
-
-slice-aggregate-scan : tie.Need-slice-aggregate-scan
-unfolding room
-slice-aggregate-scan c = sym (length-take-le (c .before .before .before .before .before .before .before .before .before .before .before .before .before .before .args .n) _ (omega (arith, c .before .before .before .prepare .kept, c .before .before .before .before .before .before .before .clear .kept, c .before .before .before .before .before .before .before .before .before .before .before .before .before .before .pre .scratch-room)))
-
-scan-requires : tie.Need-scan-requires
-scan-requires c κs = let at = c .before .before .before .before .before .before .before .before .before .before .before .before .before .before .args in
+first-fault-requires c κs =
+    let at = c .before .before .before .before .before .before .args in
     let rows = at .rows .now in
-    let all = c .before .before .before .before .before .before .before .before .before .before .before .before .before .before .pre .all in
-    let proper = c .before .before .before .before .before .before .before .before .before .before .before .before .before .before .pre .proper in
-    let size = allowed-size (at .m) (at .n) (at .t) proper in
-    let inits = initWords rows (at .n) (at .t) all in
-    let ops = opWords rows (at .n) (at .t) all in (
+    let all = c .before .before .before .before .before .before .pre .all in
+    let proper = c .before .before .before .before .before .before .pre .proper in
+    let size = allowed-size (at .m) (at .n) (at .t) proper in (
       (
         init-words-count rows (at .n) (at .t) all,
         op-words-count rows (at .n) (at .t) all,
         sized-limit (at .m) (at .n) size,
         allowed-count (at .m) (at .n) (at .t) proper,
+        omega (arith, c .before .before .before .before .before .before .pre .scratch-room),
       ),
-      (size, prepared-tree (at .m) (at .n) inits _ (c .before .before .before .prepare .ensures)),
+      size,
     )
 
-clear-requires-2 : tie.Need-clear-requires-2
-clear-requires-2 c κs = search needs
-
-clear-requires-3 : tie.Need-clear-requires-3
-clear-requires-3 c κs = search needs
+clear-both-requires : tie.Need-clear-both-requires
+clear-both-requires c κs = search needs
 
 same-length : tie.Need-same-length
 same-length c = search needs
@@ -88,34 +61,37 @@ same-length-2 c = search needs
 
 returns : tie.Need-returns
 unfolding valuesIn
-returns c = let at = c .before .before .before .before .before .before .before .before .before .before .before .before .before .before .before .before .before .before .before .before .before .before .before .before .before .args in
+returns c =
+    let at = c .before .before .before .before .before .before .before .before .before .before .before .before .before .before .before .before .before .before .args in
     let rows = at .rows .now in
-    let all = c .before .before .before .before .before .before .before .before .before .before .before .before .before .before .before .before .before .before .before .before .before .before .before .before .before .pre .all in
-    let proper = c .before .before .before .before .before .before .before .before .before .before .before .before .before .before .before .before .before .before .before .before .before .before .before .before .before .pre .proper in
+    let all = c .before .before .before .before .before .before .before .before .before .before .before .before .before .before .before .before .before .before .pre .all in
+    let proper = c .before .before .before .before .before .before .before .before .before .before .before .before .before .before .before .before .before .before .pre .proper in
     let size = allowed-size (at .m) (at .n) (at .t) proper in
     let inits = initWords rows (at .n) (at .t) all in
     let ops = opWords rows (at .n) (at .t) all in
-    let long : length (c .before .before .before .before .before .before .before .before .before .before .before .before .before .before .prepare .last .1 .1 .1 .0) ≡ length (at .scratch .now) = omega (arith, c .before .before .before .before .before .before .before .before .before .before .before .before .before .before .prepare .kept, c .before .before .before .before .before .before .before .before .before .before .before .before .before .before .before .before .before .before .clear .kept) in
-    refused-is (at .m) (at .t) (inputsIn inits) (inputsIn ops) (at .out .now) (at .scratch .now) _ _ (c .before .before .before .before .before .before .before .before .before .before .scan .result .number) (c .before .before .before .before .before .before .before .before .before .before .scan .result .place)
-    (c .before .before .before .before .before .before .before .before .before .before .scan .ensures .0) (c .before .before .before .before .before .before .before .before .before .before .scan .ensures .1) (c .before .before .before .before .before .before .before .before .if1 .taken) (c .before .before .before .before .before .before .clear2 .ensures) (c .before .before .clear3 .ensures ∙ ap (λ (k : ℕ). replicate k 0) long)
+    let fault = c .before .before .before .before .before .before .before .before .before .before .before .first-fault .result in
+    refused-is (at .m) (at .t) (inputsIn inits) (inputsIn ops) (at .out .now) (at .scratch .now) _ _ (fault .number) (fault .place)
+    (c .before .before .before .before .before .before .before .before .before .before .before .first-fault .ensures .0) (c .before .before .before .before .before .before .before .before .before .before .before .first-fault .ensures .1 .0) (c .before .before .before .before .before .before .before .if1 .taken) (c .before .before .before .before .clear-both .ensures .0)
+    (c .before .before .before .before .clear-both .ensures .1 ∙ ap (λ (k : ℕ). replicate k 0) (c .before .before .before .before .before .before .before .before .before .before .before .first-fault .kept .1 .1 .1 .1 .1 .0))
     ∙ parts-filled rows (at .n) (at .t) all (at .m) (at .out .now) (at .scratch .now)
 
 write-rows-requires : tie.Need-write-rows-requires
 unfolding room
-write-rows-requires c κs = let at = c .before .before .before .before .before .before .before .before .before .before .before .before .before .before .before .before .before .before .before .args in
+write-rows-requires c κs =
+    let at = c .before .before .before .before .before .before .before .before .before .before .before .before .before .args in
     let rows = at .rows .now in
-    let all = c .before .before .before .before .before .before .before .before .before .before .before .before .before .before .before .before .before .before .before .pre .all in
-    let proper = c .before .before .before .before .before .before .before .before .before .before .before .before .before .before .before .before .before .before .before .pre .proper in
+    let all = c .before .before .before .before .before .before .before .before .before .before .before .before .before .pre .all in
+    let proper = c .before .before .before .before .before .before .before .before .before .before .before .before .before .pre .proper in
     let size = allowed-size (at .m) (at .n) (at .t) proper in
     let inits = initWords rows (at .n) (at .t) all in
     let ops = opWords rows (at .n) (at .t) all in
     let starting = init-words-count rows (at .n) (at .t) all in
     let values = values-count inits (at .n) starting in
     let inputs = inputs-count inits (at .n) starting in
-    let none = sym (c .before .before .before .before .scan .ensures .0) ∙ c .before .before .if1 .left in (
+    let none = sym (c .before .before .before .before .before .before .first-fault .ensures .0) ∙ c .before .before .if1 .left in (
       clean-inits p (at .m) (valuesIn inits) (inputsIn inits) (inputsIn ops) (at .n) values inputs size none,
       (
-        omega (arith, c .before .before .before .before .before .before .before .before .before .before .before .before .before .before .before .before .before .before .before .pre .out-room),
+        omega (arith, c .before .before .before .before .before .before .before .before .before .before .before .before .before .pre .out-room),
         (
           record {
             size = sized-limit (at .m) (at .n) size;
@@ -123,11 +99,11 @@ write-rows-requires c κs = let at = c .before .before .before .before .before .
             allowed = size;
             starting = starting;
             operating = op-words-count rows (at .n) (at .t) all;
-            out-room = omega (arith, c .before .before .before .before .before .before .before .before .before .before .before .before .before .before .before .before .before .before .before .pre .out-room, length-drop (7 * at .n) (at .out .now));
-            scratch-room = omega (arith, c .before .before .before .before .before .before .before .before .prepare .kept, c .before .before .before .before .before .before .before .before .before .before .before .before .clear .kept, c .before .before .before .before .before .before .before .before .before .before .before .before .before .before .before .before .before .before .before .pre .scratch-room);
+            out-room = omega (arith, c .before .before .before .before .before .before .before .before .before .before .before .before .before .pre .out-room, length-drop (7 * at .n) (at .out .now));
+            scratch-room = omega (arith, c .before .before .before .before .before .before .first-fault .kept, c .before .before .before .before .before .before .before .before .before .before .before .before .before .pre .scratch-room);
             clean = clean-operations p (at .m) (valuesIn inits) (inputsIn inits) (inputsIn ops) (at .n) values inputs size none;
           },
-          c .before .before .before .before .before .before .before .before .prepare .ensures,
+          c .before .before .before .before .before .before .first-fault .ensures .1 .1,
         ),
       ),
     )
@@ -140,17 +116,15 @@ same-length-4 c = search needs
 
 returns-2 : tie.Need-returns-2
 unfolding valuesIn
-returns-2 c = let at = c .before .before .before .before .before .before .before .before .before .before .before .before .before .before .before .before .before .before .before .before .before .before .before .before .args in
+returns-2 c =
+    let at = c .before .before .before .before .before .before .before .before .before .before .before .before .before .before .before .before .before .before .args in
     let rows = at .rows .now in
-    let all = c .before .before .before .before .before .before .before .before .before .before .before .before .before .before .before .before .before .before .before .before .before .before .before .before .pre .all in
-    let proper = c .before .before .before .before .before .before .before .before .before .before .before .before .before .before .before .before .before .before .before .before .before .before .before .before .pre .proper in
-    let size = allowed-size (at .m) (at .n) (at .t) proper in
+    let all = c .before .before .before .before .before .before .before .before .before .before .before .before .before .before .before .before .before .before .pre .all in
     let inits = initWords rows (at .n) (at .t) all in
     let ops = opWords rows (at .n) (at .t) all in
-    let none = sym (c .before .before .before .before .before .before .before .before .before .scan .ensures .0) ∙ c .before .before .before .before .before .before .before .if1 .left in
-    let long : length (c .before .before .before .before .before .before .before .before .before .before .before .before .before .prepare .last .1 .1 .1 .0) ≡ length (at .scratch .now) = omega (arith, c .before .before .before .before .before .before .before .before .before .before .before .before .before .prepare .kept, c .before .before .before .before .before .before .before .before .before .before .before .before .before .before .before .before .before .clear .kept) in
+    let none = sym (c .before .before .before .before .before .before .before .before .before .before .before .first-fault .ensures .0) ∙ c .before .before .before .before .before .before .before .if1 .left in
     filled-is (at .m) (at .t) (inputsIn inits) (inputsIn ops) (at .out .now) (at .scratch .now) _ _ (c .before .before .before .before .write-rows .result)
-    none (c .before .before .before .before .write-rows .ensures .0) (c .before .before .before .before .write-rows .ensures .1 .0 ∙ ap (λ (k : ℕ). replicate k 0) long) (c .before .before .before .before .write-rows .ensures .1 .1)
+    none (c .before .before .before .before .write-rows .ensures .0) (c .before .before .before .before .write-rows .ensures .1 .0 ∙ ap (λ (k : ℕ). replicate k 0) (c .before .before .before .before .before .before .before .before .before .before .before .first-fault .kept .1 .1 .1 .1 .1 .0)) (c .before .before .before .before .write-rows .ensures .1 .1)
     ∙ parts-filled rows (at .n) (at .t) all (at .m) (at .out .now) (at .scratch .now)
 
 pub fill-rows-spec : {M : Type 1} → statement M
@@ -163,13 +137,8 @@ fill-rows-spec =
     sub-ops
     part-ops-start
     part-ops-end
-    clear-requires
-    prepare-requires
-    slice-reshare-prefix-scan
-    slice-aggregate-scan
-    scan-requires
-    clear-requires-2
-    clear-requires-3
+    first-fault-requires
+    clear-both-requires
     same-length
     same-length-2
     returns

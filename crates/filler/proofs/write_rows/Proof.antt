@@ -9,7 +9,7 @@ use Rattle.memory.specs.Honest.{bare, filledRows, operationsFilled}
 use Rattle.memory.specs.Filler.{inputsIn}
 use Rattle.index.specs.Values.{valuesIn}
 use Rattle.filler.proofs.Inputs.{inputs-count}
-use Rattle.filler.proofs.Laid.{laid-handed-on, part-lent}
+use Rattle.layout.proofs.Laid.{laid-handed-on, part-lent}
 use borrow.Author.Needs.{needs}
 use Rattle.filler.proofs.write_rows.Statement.{statement}
 use Rattle.filler.proofs.write_rows.Tie as tie

@@ -6,10 +6,10 @@ use mathlib.Core.Path.{_≡_, refl, sym, ap, _∙_}
 use mathlib.Core.List.{List}
 use borrow.Author.Needs.{needs}
 use lib.ListN.{length}
-use Rattle.filler.specs.Words.{laid}
+use Rattle.layout.specs.Laid.{laid}
 use Rattle.filler.specs.Ends.{cellEnds}
-use Rattle.filler.proofs.Laid.{laid-none}
-use Rattle.filler.proofs.EndRows.{cells-turn}
+use Rattle.layout.proofs.Laid.{laid-none}
+use Rattle.filler.proofs.EndRows.{cells-turn, cells-count}
 use Rattle.filler.proofs.ends.cell_ends.Statement.{statement}
 use Rattle.filler.proofs.ends.cell_ends.Tie as tie
 
@@ -71,11 +71,13 @@ returns : tie.Need-returns Inv-loop μ-loop
 unfolding cellEnds
 returns c = let at = c .before .before .before .before .args in
     let i = c .before .loop .i in
-    let none : at .count - i ≡ 0 = omega arith in
-    sym
-    (c .before .loop .inv .2
-    ∙ ap (λ (n : ℕ). laid (c .before .loop .out) (7 * i) (cellEnds (at .w) (at .from + i) n (at .scratch .now))) none
-    ∙ laid-none (c .before .loop .out) (7 * i))
+    let none : at .count - i ≡ 0 = omega arith in (
+      sym
+          (c .before .loop .inv .2
+          ∙ ap (λ (n : ℕ). laid (c .before .loop .out) (7 * i) (cellEnds (at .w) (at .from + i) n (at .scratch .now))) none
+          ∙ laid-none (c .before .loop .out) (7 * i)),
+      sym (cells-count (at .w) (at .from) (at .count) (at .scratch .now)),
+    )
 
 pub cell-ends-spec : {M : Type 1} → statement M
 cell-ends-spec =

@@ -3,9 +3,10 @@
 use native.Mathlib.Omega.{arith}
 use Prim.Native.Nat.{ℕ, _*_}
 use mathlib.Core.Path.{sym, ap}
+use lib.ListN.{length-append}
 use Rattle.filler.specs.Ends.{cellEnds, ranges}
-use Rattle.filler.proofs.Laid.{laid-handed-on}
-use Rattle.filler.proofs.EndRows.{cells-count}
+use Rattle.layout.proofs.Laid.{laid-handed-on}
+use Rattle.filler.proofs.EndRows.{cells-count, ranges-count}
 use borrow.Author.Needs.{needs}
 use Rattle.filler.proofs.ends.cells_and_ranges.Statement.{statement}
 use Rattle.filler.proofs.ends.cells_and_ranges.Tie as tie
@@ -34,16 +35,25 @@ part-range-rows-end c = search needs
 range-rows-requires : tie.Need-range-rows-requires
 range-rows-requires c κs = search needs
 
+add-result : tie.Need-add-result
+add-result c = let at = c .before .before .before .before .before .before .before .before .before .before .args in omega (arith, c .before .before .before .before .before .before .cell-ends .ensures .1, cells-count (at .w) 0 (at .count) (at .scratch .now))
+
 same-length : tie.Need-same-length
 same-length c = search needs
 
 returns : tie.Need-returns
-returns c = laid-handed-on (c .before .before .before .before .before .before .before .before .before .before .args .out .now) (c .before .before .before .before .before .before .cell-ends .last .1 .1 .1 .1 .0) (c .before .before .range-rows .last .1 .1 .1 .0) (7 * c .before .before .before .before .before .before .before .before .before .before .args .count)
-    (cellEnds (c .before .before .before .before .before .before .before .before .before .before .args .w) 0 (c .before .before .before .before .before .before .before .before .before .before .args .count) (c .before .before .before .before .before .before .before .before .before .before .args .scratch .now)) (ranges (2 * c .before .before .before .before .before .before .before .before .before .before .args .w) (c .before .before .before .before .before .before .before .before .before .before .args .t) (c .before .before .before .before .before .before .before .before .before .before .args .scratch .now))
-    (c .before .before .before .before .before .before .cell-ends .ensures)
-    (ap (λ (n : ℕ). 7 * n) (sym (cells-count (c .before .before .before .before .before .before .before .before .before .before .args .w) 0 (c .before .before .before .before .before .before .before .before .before .before .args .count) (c .before .before .before .before .before .before .before .before .before .before .args .scratch .now))))
-    (omega arith)
-    (c .before .before .range-rows .ensures)
+returns c =
+    let at = c .before .before .before .before .before .before .before .before .before .before .args in
+    let cells = cellEnds (at .w) 0 (at .count) (at .scratch .now) in
+    let rest = ranges (2 * at .w) (at .t) (at .scratch .now) in
+    let many = cells-count (at .w) 0 (at .count) (at .scratch .now) in (
+      laid-handed-on (at .out .now) (c .before .before .before .before .before .before .cell-ends .last .1 .1 .1 .1 .0) (c .before .before .range-rows .last .1 .1 .1 .0) (7 * at .count) cells rest
+          (c .before .before .before .before .before .before .cell-ends .ensures .0)
+          (ap (λ (n : ℕ). 7 * n) (sym many))
+          (omega arith)
+          (c .before .before .range-rows .ensures),
+      omega (arith, c .before .before .before .before .before .before .cell-ends .ensures .1, length-append cells rest, ranges-count (2 * at .w) (at .t) (at .scratch .now)),
+    )
 
 pub cells-and-ranges-spec : {M : Type 1} → statement M
 cells-and-ranges-spec =
@@ -57,5 +67,6 @@ cells-and-ranges-spec =
     part-range-rows-start
     part-range-rows-end
     range-rows-requires
+    add-result
     same-length
     returns)

@@ -1,10 +1,7 @@
 -- `filler::ends::finish` meets its contract.
 -- Assumes nothing.
 use native.Mathlib.Omega.{arith}
-use lib.ListN.{length-append}
 use Rattle.filler.specs.Ends.{ending}
-use Rattle.filler.proofs.Inputs.{values-count}
-use Rattle.filler.proofs.EndRows.{cells-count, ranges-count, values-ends-count}
 use borrow.Author.Needs.{needs}
 use Rattle.filler.proofs.ends.finish.Statement.{statement}
 use Rattle.filler.proofs.ends.finish.Tie as tie
@@ -14,9 +11,6 @@ enum-told c = search needs
 
 cells-and-ranges-requires : tie.Need-cells-and-ranges-requires
 cells-and-ranges-requires c κs = rw (c .before .enum-told .given .1) at (c .before .before .before .before .before .before .pre)
-
-add-result : tie.Need-add-result
-add-result c = let fit = rw (c .before .before .before .before .enum-told .given .1) at (c .before .before .before .before .before .before .before .before .before .pre) in omega arith
 
 enum-told-2 : tie.Need-enum-told-2
 enum-told-2 c = search needs
@@ -36,57 +30,49 @@ enum-told-4 c = search needs
 cells-and-ranges-requires-2 : tie.Need-cells-and-ranges-requires-2
 cells-and-ranges-requires-2 c κs = rw (c .before .enum-told4 .given .1) at (c .before .before .before .before .before .before .pre)
 
-add-result-2 : tie.Need-add-result-2
-add-result-2 c = let fit = rw (c .before .before .before .before .enum-told4 .given .1) at (c .before .before .before .before .before .before .before .before .before .pre) in omega arith
-
 enum-told-5 : tie.Need-enum-told-5
 enum-told-5 c = search needs
 
 sub-cell-ends : tie.Need-sub-cell-ends
-sub-cell-ends c = let fit = rw (c .enum-told5 .given .1) at (c .before .before .before .before .before .pre) in omega arith
+sub-cell-ends c = let fit = rw (c .before .enum-told5 .given .1) at (c .before .before .before .before .before .before .pre) in omega arith
 
 cell-ends-requires : tie.Need-cell-ends-requires
-cell-ends-requires c κs = let fit = rw (c .before .enum-told5 .given .1) at (c .before .before .before .before .before .before .pre) in omega arith
-
-sub-result : tie.Need-sub-result
-sub-result c = let fit = rw (c .before .before .before .before .enum-told5 .given .1) at (c .before .before .before .before .before .before .before .before .before .pre) in omega arith
+cell-ends-requires c κs = let fit = rw (c .before .before .enum-told5 .given .1) at (c .before .before .before .before .before .before .before .pre) in omega arith
 
 same-length : tie.Need-same-length
 same-length c = search needs
 
 returns : tie.Need-returns
 unfolding ending
-returns c = (simp (c .before .before .before .before .enum-told .given .1, c .before .before .cells-and-ranges .ensures), simp (c .before .before .before .before .enum-told .given .1, length-append, cells-count, ranges-count))
+returns c = (simp (c .before .before .before .before .enum-told .given .1, c .before .before .cells-and-ranges .ensures .0), simp (c .before .before .before .before .enum-told .given .1, c .before .before .cells-and-ranges .ensures .1))
 
 same-length-2 : tie.Need-same-length-2
 same-length-2 c = search needs
 
 returns-2 : tie.Need-returns-2
 unfolding ending
-returns-2 c = let count = values-count (c .before .before .before .before .before .before .before .before .before .args .inits .now) (c .before .before .before .before .before .before .before .before .before .args .w) ((rw (c .before .before .before .before .enum-told2 .given .1) at (c .before .before .before .before .before .before .before .before .before .pre)) .count) in
-    (simp (c .before .before .before .before .enum-told2 .given .1, c .before .before .value-ends .ensures), simp (c .before .before .before .before .enum-told2 .given .1, values-ends-count, count))
+returns-2 c = (simp (c .before .before .before .before .enum-told2 .given .1, c .before .before .value-ends .ensures .0), simp (c .before .before .before .before .enum-told2 .given .1, c .before .before .value-ends .ensures .1))
 
 same-length-3 : tie.Need-same-length-3
 same-length-3 c = search needs
 
 returns-3 : tie.Need-returns-3
 unfolding ending
-returns-3 c = let count = values-count (c .before .before .before .before .before .before .before .before .before .args .inits .now) (c .before .before .before .before .before .before .before .before .before .args .w) ((rw (c .before .before .before .before .enum-told3 .given .1) at (c .before .before .before .before .before .before .before .before .before .pre)) .count) in
-    (simp (c .before .before .before .before .enum-told3 .given .1, c .before .before .value-ends2 .ensures), simp (c .before .before .before .before .enum-told3 .given .1, values-ends-count, count))
+returns-3 c = (simp (c .before .before .before .before .enum-told3 .given .1, c .before .before .value-ends2 .ensures .0), simp (c .before .before .before .before .enum-told3 .given .1, c .before .before .value-ends2 .ensures .1))
 
 same-length-4 : tie.Need-same-length-4
 same-length-4 c = search needs
 
 returns-4 : tie.Need-returns-4
 unfolding ending
-returns-4 c = (simp (c .before .before .before .before .enum-told4 .given .1, c .before .before .cells-and-ranges2 .ensures), simp (c .before .before .before .before .enum-told4 .given .1, length-append, cells-count, ranges-count))
+returns-4 c = (simp (c .before .before .before .before .enum-told4 .given .1, c .before .before .cells-and-ranges2 .ensures .0), simp (c .before .before .before .before .enum-told4 .given .1, c .before .before .cells-and-ranges2 .ensures .1))
 
 same-length-5 : tie.Need-same-length-5
 same-length-5 c = search needs
 
 returns-5 : tie.Need-returns-5
 unfolding ending
-returns-5 c = (simp (c .before .before .before .before .enum-told5 .given .1, c .before .before .cell-ends .ensures), simp (c .before .before .before .before .enum-told5 .given .1, cells-count))
+returns-5 c = (simp (c .before .before .before .before .before .enum-told5 .given .1, c .before .before .cell-ends .ensures .0), simp (c .before .before .before .before .before .enum-told5 .given .1, c .before .before .cell-ends .ensures .1))
 
 pub finish-spec : {M : Type 1} → statement M
 finish-spec =
@@ -94,18 +80,15 @@ finish-spec =
     (tie.spec
     enum-told
     cells-and-ranges-requires
-    add-result
     enum-told-2
     value-ends-requires
     enum-told-3
     value-ends-requires-2
     enum-told-4
     cells-and-ranges-requires-2
-    add-result-2
     enum-told-5
     sub-cell-ends
     cell-ends-requires
-    sub-result
     same-length
     returns
     same-length-2

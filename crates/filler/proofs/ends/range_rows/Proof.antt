@@ -6,9 +6,9 @@ use mathlib.Core.Path.{_≡_, refl, sym, ap, _∙_}
 use mathlib.Core.List.{List}
 use borrow.Author.Needs.{needs}
 use lib.ListN.{length}
-use Rattle.filler.specs.Words.{laid}
+use Rattle.layout.specs.Laid.{laid}
 use Rattle.filler.specs.Ends.{ranges}
-use Rattle.filler.proofs.Laid.{laid-none}
+use Rattle.layout.proofs.Laid.{laid-none}
 use Rattle.filler.proofs.EndRows.{ranges-turn}
 use Rattle.filler.proofs.ends.range_rows.Statement.{statement}
 use Rattle.filler.proofs.ends.range_rows.Tie as tie

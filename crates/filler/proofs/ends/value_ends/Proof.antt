@@ -9,11 +9,11 @@ use borrow.Author.Needs.{needs}
 use Rattle.memory.specs.declared.Row.{Row}
 use lib.ListN.{length, drop, drop-of-length-le}
 use Rattle.index.specs.Values.{valuesIn}
-use Rattle.filler.specs.Words.{laid}
+use Rattle.layout.specs.Laid.{laid}
 use Rattle.filler.specs.Ends.{valueEnds}
 use Rattle.filler.proofs.Inputs.{values-count}
-use Rattle.filler.proofs.Laid.{laid-none}
-use Rattle.filler.proofs.EndRows.{values-turn}
+use Rattle.layout.proofs.Laid.{laid-none}
+use Rattle.filler.proofs.EndRows.{values-turn, values-ends-count}
 use Rattle.filler.proofs.ends.value_ends.Statement.{statement}
 use Rattle.filler.proofs.ends.value_ends.Tie as tie
 
@@ -67,7 +67,7 @@ loop-again c = let at = c .before .before .before .before .before .before .befor
       inv .2
           ∙ values-turn (at .n) i (at .inits .now) (at .scratch .now) (c .before .before .before .before .before .before .before .loop .out) (omega arith) (omega arith)
           ∙ ap (λ (l : List ℕ). laid l (7 * (i + 1)) (rest (suc i))) (sym (c .before .before .put .ensures))
-          ∙ ap (λ (k : ℕ). laid (c .before .before .put .last .1 .1 .1 .1 .1 .1 .1 .1 .0) (7 * (i + 1)) (rest k)) (sym (add-one i)),
+          ∙ ap (λ (k : ℕ). laid (c .before .before .put .last .1 .1 .1 .1 .1 .0) (7 * (i + 1)) (rest k)) (sym (add-one i)),
     )
 
 same-length : tie.Need-same-length Inv-loop μ-loop
@@ -77,11 +77,14 @@ returns : tie.Need-returns Inv-loop μ-loop
 unfolding valueEnds
 returns c = let at = c .before .before .before .before .before .args in
     let i = c .before .loop .i in
-    let past = drop-of-length-le (valuesIn (at .inits .now)) {i = i} (omega (arith, values-count (at .inits .now) (at .n) (c .before .before .before .before .before .pre .count))) in
-    sym
-    (c .before .loop .inv .2
-    ∙ ap (λ (vs : List ℕ). laid (c .before .loop .out) (7 * i) (valueEnds (at .n + i) vs (at .scratch .now))) past
-    ∙ laid-none (c .before .loop .out) (7 * i))
+    let count = values-count (at .inits .now) (at .n) (c .before .before .before .before .before .pre .count) in
+    let past = drop-of-length-le (valuesIn (at .inits .now)) {i = i} (omega (arith, count)) in (
+      sym
+          (c .before .loop .inv .2
+          ∙ ap (λ (vs : List ℕ). laid (c .before .loop .out) (7 * i) (valueEnds (at .n + i) vs (at .scratch .now))) past
+          ∙ laid-none (c .before .loop .out) (7 * i)),
+      sym (values-ends-count (at .n) (valuesIn (at .inits .now)) (at .scratch .now) ∙ count),
+    )
 
 pub value-ends-spec : {M : Type 1} → statement M
 value-ends-spec =

@@ -49,11 +49,11 @@ returns-3 c = simp (c .before .enum-told3 .given .1, c .missing .ensures)
 
 returns-4 : tie.Need-returns-4
 unfolding refusal
-returns-4 c = simp (c .before .enum-told4 .given .1, c .emptied .ensures)
+returns-4 c = simp (c .before .before .enum-told4 .given .1, c .emptied .ensures)
 
 returns-5 : tie.Need-returns-5
 unfolding refusal
-returns-5 c = simp (c .before .enum-told5 .given .1, c .emptied2 .ensures)
+returns-5 c = simp (c .before .before .enum-told5 .given .1, c .emptied2 .ensures)
 
 pub refusal-spec : {M : Type 1} → statement M
 refusal-spec =

@@ -9,9 +9,9 @@ use borrow.Author.Needs.{needs}
 use borrow.Author.Tests.{eq-eqb, ne-eqb}
 use Rattle.field.specs.Field.{p}
 use Rattle.memory.specs.Filler.{inputsIn, Placed, placed}
-use Rattle.filler.specs.Scan.{initsScanned}
+use Rattle.filler.specs.Scan.{initFault, initsScanned}
 use Rattle.filler.proofs.Inputs.{inputs-count}
-use Rattle.filler.proofs.Scanned.{inits-turn}
+use Rattle.filler.proofs.Scanned.{read-is, inits-turn}
 use Rattle.filler.proofs.faults.scan_inits.Statement.{statement}
 use Rattle.filler.proofs.faults.scan_inits.Tie as tie
 
@@ -24,18 +24,21 @@ abbrev μ-loop : tie.MeasureT-loop
 loop-holds : tie.Need-loop-holds Inv-loop μ-loop
 loop-holds c = (omega arith, refl)
 
+read-requires : tie.Need-read-requires Inv-loop μ-loop
+read-requires c κs = search needs
+
 init-fault-requires : tie.Need-init-fault-requires Inv-loop μ-loop
 init-fault-requires c κs = search needs
 
-add-t6 : tie.Need-add-t6 Inv-loop μ-loop
-add-t6 c = search needs
+add-t7 : tie.Need-add-t7 Inv-loop μ-loop
+add-t7 c = search needs
 
 returns : tie.Need-returns Inv-loop μ-loop
 unfolding placed
-returns c = let inits = c .before .before .before .before .before .args .inits .now in
-    let k = c .before .before .before .loop .k in
+returns c = let inits = c .before .before .before .before .before .before .args .inits .now in
+    let k = c .before .before .before .before .loop .k in
     let found : initsScanned p 1 (inputsIn inits) ≡ placed (c .before .init-fault .result) (k + 1) =
-    c .before .before .before .loop .inv .1 ∙ inits-turn p (k + 1) inits k (omega arith) ∙ simp (sym (c .before .init-fault .ensures), ne-eqb _ _ (c .if1 .taken)) in
+    c .before .before .before .before .loop .inv .1 ∙ inits-turn p (k + 1) inits k (omega arith) ∙ simp (sym (c .before .init-fault .ensures ∙ ap (initFault p) (read-is inits k (c .before .before .read .ensures))), ne-eqb _ _ (c .if1 .taken)) in
     (ap (λ (f : Placed). f .number) (sym found), ap (λ (f : Placed). f .place) (sym found))
 
 add-k : tie.Need-add-k Inv-loop μ-loop
@@ -45,10 +48,10 @@ loop-less : tie.Need-loop-less Inv-loop μ-loop
 loop-less c = search needs
 
 loop-again : tie.Need-loop-again Inv-loop μ-loop
-loop-again c = let inits = c .before .before .before .before .before .args .inits .now in
-    let k = c .before .before .before .loop .k in (
+loop-again c = let inits = c .before .before .before .before .before .before .args .inits .now in
+    let k = c .before .before .before .before .loop .k in (
       omega arith,
-      c .before .before .before .loop .inv .1 ∙ inits-turn p (k + 1) inits k (omega arith) ∙ simp (sym (c .before .init-fault .ensures), eq-eqb _ _ (c .if1 .left), add-one),
+      c .before .before .before .before .loop .inv .1 ∙ inits-turn p (k + 1) inits k (omega arith) ∙ simp (sym (c .before .init-fault .ensures ∙ ap (initFault p) (read-is inits k (c .before .before .read .ensures))), eq-eqb _ _ (c .if1 .left), add-one),
     )
 
 returns-2 : tie.Need-returns-2 Inv-loop μ-loop
@@ -66,8 +69,9 @@ scan-inits-spec =
     Inv-loop
     μ-loop
     loop-holds
+    read-requires
     init-fault-requires
-    add-t6
+    add-t7
     returns
     add-k
     loop-less

@@ -14,10 +14,11 @@ use Rattle.field.specs.Field.{p}
 use Rattle.memory.specs.Filler.{inputsIn, Placed, placed}
 use Rattle.index.specs.Values.{valuesIn}
 use Rattle.memory.specs.Rows.{limit}
+use Rattle.words.specs.declared.Input as words
 use Rattle.filler.specs.Words.{opAt, guardAt, inputAt}
 use Rattle.filler.specs.Scan.{leveled, faultAt, scanned}
 use Rattle.filler.proofs.Inputs.{inputs-count}
-use Rattle.filler.proofs.Scanned.{leveled-rise, scan-turn}
+use Rattle.filler.proofs.Scanned.{read-is, leveled-rise, scan-turn}
 use Rattle.filler.proofs.faults.scan_operations.Statement.{statement}
 use Rattle.filler.proofs.faults.scan_operations.Tie as tie
 
@@ -31,46 +32,28 @@ loop-holds : tie.Need-loop-holds Inv-loop μ-loop
 loop-holds c = let start : c .before .before .before .args .n + 1 ≡ c .before .before .before .args .n + 0 + 1 = omega arith in
     (omega arith, omega arith, ap (λ (place : ℕ). scanned p (c .before .before .before .args .m) (valuesIn (c .before .before .before .args .inits .now)) (c .before .before .before .args .n) place (inputsIn (c .before .before .before .args .ops .now))) start)
 
+read-requires : tie.Need-read-requires Inv-loop μ-loop
+read-requires c κs = search needs
+
 operation-fault-requires : tie.Need-operation-fault-requires Inv-loop μ-loop
 operation-fault-requires c κs = search needs
-
-add-t11 : tie.Need-add-t11 Inv-loop μ-loop
-unfolding limit
-add-t11 c = search needs
 
 add-t12 : tie.Need-add-t12 Inv-loop μ-loop
 unfolding limit
 add-t12 c = search needs
 
+add-t13 : tie.Need-add-t13 Inv-loop μ-loop
+unfolding limit
+add-t13 c = search needs
+
 returns : tie.Need-returns Inv-loop μ-loop
 unfolding placed
-returns c = let at = c .before .before .before .before .before .before .before .args in
-    let k = c .before .before .before .loop .k in
+returns c = let at = c .before .before .before .before .before .before .before .before .args in
+    let k = c .before .before .before .before .loop .k in
     let found : scanned p (at .m) (valuesIn (at .inits .now)) (at .n) (at .n + 1) (inputsIn (at .ops .now)) ≡ placed (c .before .operation-fault .result) (at .n + k + 1) =
-    c .before .before .before .loop .inv .2 ∙ scan-turn p (at .m) (valuesIn (at .inits .now)) (c .before .before .before .loop .level) (at .n + k + 1) (at .ops .now) k (omega arith)
-    ∙ simp (sym (c .before .operation-fault .ensures), ne-eqb _ _ (c .if1 .taken)) in
+    c .before .before .before .before .loop .inv .2 ∙ scan-turn p (at .m) (valuesIn (at .inits .now)) (c .before .before .before .before .loop .level) (at .n + k + 1) (at .ops .now) k (omega arith)
+    ∙ simp (sym (c .before .operation-fault .ensures ∙ ap (faultAt p (at .m) (valuesIn (at .inits .now)) (c .before .before .before .before .loop .level)) (read-is (at .ops .now) k (c .before .before .read .ensures))), ne-eqb _ _ (c .if1 .taken)) in
     (ap (λ (f : Placed). f .number) (sym found), ap (λ (f : Placed). f .place) (sym found))
-
-mul-leveled : tie.Need-mul-leveled Inv-loop μ-loop
-mul-leveled c = search needs
-
-mul-leveled-2 : tie.Need-mul-leveled-2 Inv-loop μ-loop
-mul-leveled-2 c = search needs
-
-shared-slice-read-leveled : tie.Need-shared-slice-read-leveled Inv-loop μ-loop
-shared-slice-read-leveled c = search needs
-
-mul-leveled-3 : tie.Need-mul-leveled-3 Inv-loop μ-loop
-mul-leveled-3 c = search needs
-
-add-leveled : tie.Need-add-leveled Inv-loop μ-loop
-add-leveled c = search needs
-
-mul-leveled-4 : tie.Need-mul-leveled-4 Inv-loop μ-loop
-mul-leveled-4 c = search needs
-
-shared-slice-read-leveled-2 : tie.Need-shared-slice-read-leveled-2 Inv-loop μ-loop
-shared-slice-read-leveled-2 c = search needs
 
 leveled-requires : tie.Need-leveled-requires Inv-loop μ-loop
 leveled-requires c κs = search needs
@@ -82,20 +65,21 @@ loop-less : tie.Need-loop-less Inv-loop μ-loop
 loop-less c = search needs
 
 loop-again : tie.Need-loop-again Inv-loop μ-loop
-loop-again c = let at = c .before .before .before .before .before .before .before .before .before .before .args in
-    let k = c .before .before .before .before .before .before .loop .k in
+loop-again c = let at = c .before .before .before .before .before .before .before .before .before .args in
+    let k = c .before .before .before .before .before .loop .k in
     let ops = at .ops .now in
     let values = valuesIn (at .inits .now) in
-    let level = c .before .before .before .before .before .before .loop .level in
+    let level = c .before .before .before .before .before .loop .level in
     let rest : ℕ → ℕ → ℕ → Placed = λ l place j. scanned p (at .m) values l place (drop j (inputsIn ops)) in
-    let clean : eqb (faultAt p (at .m) values level (inputAt ops k)) 0 ≡ true = eq-eqb _ 0 (sym (c .before .before .before .before .operation-fault .ensures) ∙ c .before .before .before .if1 .left) in
+    let clean : eqb (faultAt p (at .m) values level (inputAt ops k)) 0 ≡ true = eq-eqb _ 0 (sym (c .before .before .operation-fault .ensures ∙ ap (faultAt p (at .m) values level) (read-is ops k (c .before .before .before .read .ensures))) ∙ c .before .if1 .left) in
     let next : suc (at .n + k + 1) ≡ at .n + (k + 1) + 1 = omega arith in
-    let rise = leveled-rise (at .m) (c .before .before .before .before .before .before .loop .level) (opAt (at .ops .now) k) (guardAt (at .ops .now) k) in (
+    let reached = c .leveled .ensures ∙ ap (λ (r : words.Input). leveled (at .m) level (r .op) (r .guard)) (c .before .before .before .read .ensures) in
+    let rise = leveled-rise (at .m) (c .before .before .before .before .before .loop .level) (opAt (at .ops .now) k) (guardAt (at .ops .now) k) in (
       omega arith,
-      omega (arith, c .leveled .ensures),
-      c .before .before .before .before .before .before .loop .inv .2 ∙ scan-turn p (at .m) (valuesIn (at .inits .now)) (c .before .before .before .before .before .before .loop .level) (at .n + k + 1) (at .ops .now) k (omega arith)
+      omega (arith, reached),
+      c .before .before .before .before .before .loop .inv .2 ∙ scan-turn p (at .m) (valuesIn (at .inits .now)) (c .before .before .before .before .before .loop .level) (at .n + k + 1) (at .ops .now) k (omega arith)
           ∙ ap (λ (b : Bool). cond b (rest (leveled (at .m) level (opAt ops k) (guardAt ops k)) (suc (at .n + k + 1)) (suc k)) (placed (faultAt p (at .m) values level (inputAt ops k)) (at .n + k + 1))) clean
-          ∙ (λ i. rest (sym (c .leveled .ensures) i) (next i) (sym (add-one k) i)),
+          ∙ (λ i. rest (sym reached i) (next i) (sym (add-one k) i)),
     )
 
 returns-2 : tie.Need-returns-2 Inv-loop μ-loop
@@ -114,17 +98,11 @@ scan-operations-spec =
     Inv-loop
     μ-loop
     loop-holds
+    read-requires
     operation-fault-requires
-    add-t11
     add-t12
+    add-t13
     returns
-    mul-leveled
-    mul-leveled-2
-    shared-slice-read-leveled
-    mul-leveled-3
-    add-leveled
-    mul-leveled-4
-    shared-slice-read-leveled-2
     leveled-requires
     add-k
     loop-less

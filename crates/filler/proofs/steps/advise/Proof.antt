@@ -1,7 +1,6 @@
 -- `filler::steps::advise` meets its contract.
 -- Assumes nothing.
-use borrow.Author.Tests.{eq-eqb, ne-eqb}
-use Rattle.filler.specs.Steps.{toldBy, stackTold, queueTold, dequeueTold}
+use Rattle.filler.specs.Steps.{toldBy}
 use borrow.Author.Needs.{needs}
 use Rattle.filler.proofs.steps.advise.Statement.{statement}
 use Rattle.filler.proofs.steps.advise.Tie as tie
@@ -27,69 +26,49 @@ member-requires c κs = rw (c .before .enum-told3 .given .1) at (c .before .befo
 enum-told-4 : tie.Need-enum-told-4
 enum-told-4 c = search needs
 
-push-requires : tie.Need-push-requires
-push-requires c κs = (rw (c .before .before .enum-told4 .given .1) at (c .before .before .before .before .before .before .pre)) .push (c .before .if1 .taken)
+stack-requires : tie.Need-stack-requires
+stack-requires c κs = rw (c .before .enum-told4 .given .1) at (c .before .before .before .before .before .pre)
+
+enum-told-5 : tie.Need-enum-told-5
+enum-told-5 c = search needs
+
+queue-requires : tie.Need-queue-requires
+queue-requires c κs = rw (c .before .enum-told5 .given .1) at (c .before .before .before .before .before .pre)
 
 same-length : tie.Need-same-length
 same-length c = search needs
 
 returns : tie.Need-returns
-unfolding toldBy stackTold
-returns c = record { advice = simp (c .before .before .push .ensures .advice, c .before .before .before .before .before .enum-told4 .given .1, eq-eqb _ _ (c .before .before .before .before .if1 .taken)); kept = simp (c .before .before .push .ensures .kept, c .before .before .before .before .before .enum-told4 .given .1, eq-eqb _ _ (c .before .before .before .before .if1 .taken)) }
-
-pop-requires : tie.Need-pop-requires
-pop-requires c κs = (rw (c .before .before .enum-told4 .given .1) at (c .before .before .before .before .before .before .pre)) .pop (c .before .if1 .left)
-
-enum-told-5 : tie.Need-enum-told-5
-enum-told-5 c = search needs
-
-enqueue-requires : tie.Need-enqueue-requires
-enqueue-requires c κs = (rw (c .before .before .enum-told5 .given .1) at (c .before .before .before .before .before .before .pre)) .enqueue (c .before .if2 .taken)
+unfolding toldBy
+returns c = record { advice = simp (c .before .before .ram .ensures .advice, c .before .before .before .before .enum-told .given .1); kept = simp (c .before .before .ram .ensures .kept, c .before .before .before .before .enum-told .given .1) }
 
 same-length-2 : tie.Need-same-length-2
 same-length-2 c = search needs
 
 returns-2 : tie.Need-returns-2
-unfolding toldBy queueTold
-returns-2 c = record { advice = simp (c .before .before .enqueue .ensures .advice, c .before .before .before .before .before .enum-told5 .given .1, eq-eqb _ _ (c .before .before .before .before .if2 .taken)); kept = simp (c .before .before .enqueue .ensures .kept, c .before .before .before .before .before .enum-told5 .given .1, eq-eqb _ _ (c .before .before .before .before .if2 .taken)) }
-
-dequeue-requires : tie.Need-dequeue-requires
-dequeue-requires c κs = (rw (c .before .before .enum-told5 .given .1) at (c .before .before .before .before .before .before .pre)) .dequeue (c .before .if2 .left)
+unfolding toldBy
+returns-2 c = record { advice = simp (c .before .before .rom .ensures .advice, c .before .before .before .before .enum-told2 .given .1); kept = simp (c .before .before .rom .ensures .kept, c .before .before .before .before .enum-told2 .given .1) }
 
 same-length-3 : tie.Need-same-length-3
 same-length-3 c = search needs
 
 returns-3 : tie.Need-returns-3
 unfolding toldBy
-returns-3 c = record { advice = simp (c .before .before .ram .ensures .advice, c .before .before .before .before .enum-told .given .1); kept = simp (c .before .before .ram .ensures .kept, c .before .before .before .before .enum-told .given .1) }
+returns-3 c = record { advice = simp (c .before .before .member .ensures .advice, c .before .before .before .before .enum-told3 .given .1); kept = simp (c .before .before .member .ensures .kept, c .before .before .before .before .enum-told3 .given .1) }
 
 same-length-4 : tie.Need-same-length-4
 same-length-4 c = search needs
 
 returns-4 : tie.Need-returns-4
 unfolding toldBy
-returns-4 c = record { advice = simp (c .before .before .rom .ensures .advice, c .before .before .before .before .enum-told2 .given .1); kept = simp (c .before .before .rom .ensures .kept, c .before .before .before .before .enum-told2 .given .1) }
+returns-4 c = record { advice = simp (c .before .before .stack .ensures .advice, c .before .before .before .before .enum-told4 .given .1); kept = simp (c .before .before .stack .ensures .kept, c .before .before .before .before .enum-told4 .given .1) }
 
 same-length-5 : tie.Need-same-length-5
 same-length-5 c = search needs
 
 returns-5 : tie.Need-returns-5
 unfolding toldBy
-returns-5 c = record { advice = simp (c .before .before .member .ensures .advice, c .before .before .before .before .enum-told3 .given .1); kept = simp (c .before .before .member .ensures .kept, c .before .before .before .before .enum-told3 .given .1) }
-
-same-length-6 : tie.Need-same-length-6
-same-length-6 c = search needs
-
-returns-6 : tie.Need-returns-6
-unfolding toldBy stackTold
-returns-6 c = record { advice = simp (c .before .before .pop .ensures .advice, c .before .before .before .before .before .enum-told4 .given .1, ne-eqb _ _ (c .before .before .before .before .if1 .left)); kept = simp (c .before .before .pop .ensures .kept, c .before .before .before .before .before .enum-told4 .given .1, ne-eqb _ _ (c .before .before .before .before .if1 .left)) }
-
-same-length-7 : tie.Need-same-length-7
-same-length-7 c = search needs
-
-returns-7 : tie.Need-returns-7
-unfolding toldBy queueTold dequeueTold
-returns-7 c = record { advice = simp (c .dequeue .ensures .advice, c .before .before .before .enum-told5 .given .1, ne-eqb _ _ (c .before .before .if2 .left)); kept = simp (c .before .before .before .enum-told5 .given .1, ne-eqb _ _ (c .before .before .if2 .left)) }
+returns-5 c = record { advice = simp (c .before .before .queue .ensures .advice, c .before .before .before .before .enum-told5 .given .1); kept = simp (c .before .before .queue .ensures .kept, c .before .before .before .before .enum-told5 .given .1) }
 
 pub advise-spec : {M : Type 1} → statement M
 advise-spec =
@@ -102,22 +81,16 @@ advise-spec =
     enum-told-3
     member-requires
     enum-told-4
-    push-requires
+    stack-requires
+    enum-told-5
+    queue-requires
     same-length
     returns
-    pop-requires
-    enum-told-5
-    enqueue-requires
     same-length-2
     returns-2
-    dequeue-requires
     same-length-3
     returns-3
     same-length-4
     returns-4
     same-length-5
-    returns-5
-    same-length-6
-    returns-6
-    same-length-7
-    returns-7)
+    returns-5)

@@ -8,6 +8,9 @@ use borrow.Author.Needs.{needs}
 use Rattle.filler.proofs.steps.ram.Statement.{statement}
 use Rattle.filler.proofs.steps.ram.Tie as tie
 
+cast-cell : tie.Need-cast-cell
+cast-cell c = search needs
+
 mul-old : tie.Need-mul-old
 mul-old c = search needs
 
@@ -59,21 +62,22 @@ mul-scratch-2 c = search needs
 slice-write-scratch-2 : tie.Need-slice-write-scratch-2
 slice-write-scratch-2 c = simp length-set (omega arith)
 
-add-t15 : tie.Need-add-t15
+add-t12 : tie.Need-add-t12
 unfolding limit
-add-t15 c = omega (arith, c .before .before .before .before .before .before .before .before .pre .early)
+add-t12 c = omega (arith, c .before .before .before .before .before .before .before .before .before .before .before .pre .early)
 
 same-length : tie.Need-same-length
 same-length c = search needs
 
 returns : tie.Need-returns
 unfolding ramTold
-returns c = record { advice = simp (c .before .before .before .looked .ensures .0); kept = simp (c .before .before .before .looked .ensures .1, c .chosen .ensures) }
+returns c = record { advice = simp (c .before .before .before .before .looked .ensures .0); kept = simp (c .before .before .before .before .looked .ensures .1, c .before .chosen .ensures) }
 
 pub ram-spec : {M : Type 1} → statement M
 ram-spec =
     tie.close
     (tie.spec
+    cast-cell
     mul-old
     slice-read-old
     add-time
@@ -91,6 +95,6 @@ ram-spec =
     add-scratch
     mul-scratch-2
     slice-write-scratch-2
-    add-t15
+    add-t12
     same-length
     returns)

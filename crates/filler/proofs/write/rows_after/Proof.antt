@@ -6,9 +6,9 @@ use mathlib.Core.List.{List}
 use mathlib.Core.Path.{_≡_, sym, ap, subst, _∙_}
 use lib.ListN.{length, take, drop, length-drop}
 use Rattle.filler.specs.Ends.{EndingFits, ending}
-use Rattle.filler.specs.Words.{laid}
+use Rattle.layout.specs.Laid.{laid}
 use Rattle.filler.specs.Write.{widthOf}
-use Rattle.filler.proofs.Laid.{laid-lent, part-lent}
+use Rattle.layout.proofs.Laid.{laid-lent, part-lent}
 use Rattle.filler.proofs.EndRows.{ending-room}
 use borrow.Author.Needs.{needs}
 use Rattle.filler.proofs.write.rows_after.Statement.{statement}

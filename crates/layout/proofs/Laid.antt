@@ -17,7 +17,7 @@ use lib.ListN.{length, take, drop, length-append, length-drop, take-append-drop,
 use lib.Seq.{sets, sets-eq, length-take-le, take-all, take-at, drop-append-add, drop-drop}
 use Rattle.memory.specs.declared.Row.{Row}
 use Rattle.memory.specs.Filler.{rowNumbers}
-use Rattle.filler.specs.Words.{laid}
+use Rattle.layout.specs.Laid.{laid}
 
 rows-length : (rows : List Row) → length (rowNumbers rows) ≡ 7 * length rows
 unfolding rowNumbers
