@@ -122,7 +122,7 @@ pub fn finish(
     if intake.answer != 0 {
         return print::refusal(text, 0, intake.answer, intake.line);
     }
-    let end = lines::smaller(4 * line::due(intake), words.len());
+    let end = decimal::smaller(4 * line::due(intake), words.len());
     let memory = intake.memory;
     let filled = filler::fill(
         code(memory),

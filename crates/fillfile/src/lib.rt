@@ -61,7 +61,7 @@ pub fn start() -> Progress
 pub fn advance(progress: Progress, buf: &mut [u8], filled: usize, words: &mut [u32]) -> Progress
     ensures { λ r. ⌜ Advanced (lineTaken p) (gathered (progress .intake) (now (words .entry))) filled (now (buf .entry)) (leftBy r (now (words .exit)) (now (buf .exit))) ⌝ }
 {
-    let end = lines::smaller(filled, buf.len());
+    let end = decimal::smaller(filled, buf.len());
     let taken = block::lines_in(progress.intake, &buf[..end], words);
     let used = taken.used;
     let intake = taken.intake;
@@ -81,7 +81,7 @@ pub fn finish(
 ) -> Put
     ensures { λ r. ⌜ Finished (leftBy progress (now (words .entry)) (now (buf .entry))) (now (words .exit)) (now (out .entry)) (now (out .exit)) (now (scratch .entry)) (now (scratch .exit)) (now (text .entry)) (now (text .exit)) r ⌝ }
 {
-    let end = lines::smaller(progress.kept, buf.len());
+    let end = decimal::smaller(progress.kept, buf.len());
     let intake = ending::last(progress.intake, &buf[..end], words);
     ending::finish(intake, &words[..], out, scratch, text)
 }

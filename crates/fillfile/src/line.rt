@@ -1,7 +1,6 @@
 // One whole line of the filling program's input: line 1, the value line, line 3, and the rows.
-use lines::filling;
-use lines::filling::Given;
-use lines::filling::Task;
+use fill_lines::Given;
+use fill_lines::Task;
 use memory::Intake;
 use memory::Op;
 use memory::Phase;
@@ -56,7 +55,7 @@ fn named(mut intake: Intake, place: u32, fault: u32) -> Intake
 fn opened(intake: Intake, text: &[u8], ended: bool) -> Intake
     ensures { λ r. ⌜ r ≡ jobTaken intake (parseJob p (record { text = now (text .entry); ended = ended })) ⌝ }
 {
-    match filling::job_line(text, ended) {
+    match fill_lines::job_line(text, ended) {
         Task::Fill {
             memory,
             size,
@@ -117,7 +116,7 @@ fn row(intake: Intake, text: &[u8], ended: bool, words: &mut [u32]) -> Intake
     if due(intake) <= intake.passed as usize {
         return refuse_row(intake, numbers::NOT_COMPLETE);
     }
-    match filling::input_line(text, ended) {
+    match fill_lines::input_line(text, ended) {
         Given::Row {
             op,
             guard,
@@ -137,9 +136,9 @@ pub fn line(intake: Intake, text: &[u8], ended: bool, words: &mut [u32]) -> Inta
     }
     let place = intake.place;
     match place {
-        1 => named(intake, 1, filling::fill_names_line(text, ended)),
+        1 => named(intake, 1, fill_lines::fill_names_line(text, ended)),
         2 => opened(intake, text, ended),
-        3 => named(intake, 3, filling::input_names_line(text, ended)),
+        3 => named(intake, 3, fill_lines::input_names_line(text, ended)),
         _ => row(intake, text, ended, words),
     }
 }

@@ -1,9 +1,2 @@
-pub mod Digits
-pub mod Numbers
-pub mod Names
-pub mod Fields
-pub mod Keys
-pub mod Elements
 pub mod Parse
 pub mod Same
-pub mod Limits

@@ -11,7 +11,7 @@ use lib.Seq.{drop-cons}
 use borrow.Author.Tests.{eq-eqb, ne-eqb}
 use Rattle.memory.specs.Bytes.{same}
 use Rattle.memory.specs.File.{namesFault}
-use Rattle.lines.proofs.Keys.{same-eq}
+use Rattle.keys.proofs.Keys.{same-eq}
 
 -- texts of different lengths differ
 pub same-length : (xs ys : List ℕ) → (length xs ≡ length ys → ⊥) → same xs ys ≡ false

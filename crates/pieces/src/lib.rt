@@ -5,7 +5,7 @@ ghost use lib.ListN.{length, drop};
 ghost use Rattle.pieces.specs.Block.{untilFeed, restOf, fronted};
 
 // As many bytes of an unfinished line are kept as show that it is too long.
-pub const KEPT: usize = lines::LONGEST + 1;
+pub const KEPT: usize = fields::LONGEST + 1;
 
 // The length of a program's buffer: room for the kept bytes, and for a block of 64 KiB behind them.
 pub const BUFFER: usize = KEPT + 65536;
@@ -33,11 +33,11 @@ pub fn keep(buf: &mut [u8], from: usize, end: usize) -> usize
     ensures count { λ r. ⌜ r ≡ length (restOf from end (now (buf .entry))) ⌝ }
     ensures slice { λ _. ⌜ now (buf .exit) ≡ fronted (restOf from end (now (buf .entry))) (now (buf .entry)) ⌝ }
 {
-    let last = lines::smaller(end, buf.len());
+    let last = decimal::smaller(end, buf.len());
     if last <= from {
         return 0;
     }
-    let count = lines::smaller(last - from, KEPT);
+    let count = decimal::smaller(last - from, KEPT);
     let mut i = 0;
     while i < count {
         buf[i] = buf[from + i];

@@ -39,7 +39,7 @@ pub fn start() -> Progress
 pub fn advance(progress: Progress, buf: &mut [u8], filled: usize) -> Progress
     ensures { λ r. ⌜ Advanced (lineOf p) (progress .stand) filled (now (buf .entry)) (leftBy r (now (buf .exit))) ⌝ }
 {
-    let end = lines::smaller(filled, buf.len());
+    let end = decimal::smaller(filled, buf.len());
     let taken = block::lines_in(progress.stand, &buf[..end]);
     let used = taken.used;
     let stand = taken.stand;
@@ -51,7 +51,7 @@ pub fn advance(progress: Progress, buf: &mut [u8], filled: usize) -> Progress
 pub fn finish(progress: Progress, buf: &[u8]) -> Report
     ensures { λ r. ⌜ r ≡ finishOf p (standsFor (leftBy progress (now (buf .entry)))) ⌝ }
 {
-    let end = lines::smaller(progress.kept, buf.len());
+    let end = decimal::smaller(progress.kept, buf.len());
     ending::report(progress.stand, &buf[..end])
 }
 

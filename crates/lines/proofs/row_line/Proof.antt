@@ -1,19 +1,15 @@
 -- `lines::row_line` meets its contract: the row is that of the line's fields.
 -- Assumes nothing.
-use mathlib.Core.Path.{_≡_, sym, ap, _∙_}
-use mathlib.Core.Bool.{true}
+use mathlib.Core.Path.{_≡_}
 use native.Mathlib.Omega.{arith}
 use borrow.Author.Needs.{needs}
 use borrow.Author.Tests.{not-true, not-false}
 use Rattle.field.specs.Field.{p}
-use Rattle.memory.specs.Bytes.{allBelow}
-use Rattle.memory.specs.declared.Parsed.the-variants.{Fault}
-use Rattle.memory.specs.Rows.{rowWith, parseRow}
-use Rattle.lines.specs.Keys.{opKeyed}
-use Rattle.lines.specs.Walk.{taken, splitOf}
-use Rattle.lines.proofs.Keys.{Bytes}
-use Rattle.lines.proofs.Elements.{number-fits}
-use Rattle.lines.proofs.Parse.{onTaken, rowOf, row-taken}
+use Rattle.memory.specs.Bytes.{fieldsOf}
+use Rattle.fields.specs.Keyed.{keyed, byKey}
+use Rattle.fields.proofs.Parts.{keyed-below, says-unreadable, says-large, says-key}
+use Rattle.keys.proofs.Keys.{Bytes}
+use Rattle.lines.proofs.Parse.{onKeyed, rowOf, row-keyed}
 use Rattle.lines.proofs.row_line.Statement.{statement}
 use Rattle.lines.proofs.row_line.Tie as tie
 
@@ -21,115 +17,58 @@ use Rattle.lines.proofs.row_line.Tie as tie
 bytes : (c : tie.After-shared-slice-known) → Bytes (c .before .args .text .now)
 bytes c i = omega (arith, c .shared-slice-known .given i)
 
--- what the fields of the line read as
-fields-read :
-    (c : tie.After-known-told)
-    → let s = c .before .before .before .before in
+-- the fields of a line that meets neither 2 nor 3
+key-is :
+    (c : tie.Else2)
+    → let s = c .before .before .before .before .before in
     let a = s .before .before .before .args in
-    onTaken Fault rowOf opKeyed (taken (c .before .key .given .0 .0) (s .split-line .last .1 .1 .0)) ≡ parseRow p (record { text = a .text .now; ended = a .ended })
-unfolding splitOf
-fields-read c =
-    let s = c .before .before .before .before in
-    row-taken _ (bytes (s .before .before)) (ap (splitOf _) (sym (c .before .key .given .1)) ∙ s .split-line .ensures)
+    keyed (s .read .result .key) (s .read .last .1 .1 .0) ≡ byKey (fieldsOf p 7 (record { text = a .text .now; ended = a .ended }))
+key-is c =
+    let s = c .before .before .before .before .before in
+    says-key _ _ (s .read .ensures) (not-false _ (c .before .before .if1 .left)) (not-false _ (c .if2 .left))
 
--- the numbers are below p
-below-all : (c : tie.Else1) → allBelow p (c .before .before .before .before .before .before .before .split-line .last .1 .1 .0) ≡ true
-below-all c = sym (c .before .below .ensures) ∙ not-false _ (c .if1 .left)
+slice-aggregate-read : tie.Need-slice-aggregate-read
+slice-aggregate-read c = search needs
 
-slice-aggregate-split-line : tie.Need-slice-aggregate-split-line
-slice-aggregate-split-line c = search needs
-
-split-line-requires : tie.Need-split-line-requires
-split-line-requires c κs = search needs
-
-enum-known-key : tie.Need-enum-known-key
-enum-known-key c = search needs
-
-enum-told : tie.Need-enum-told
-enum-told c = search needs
+read-requires : tie.Need-read-requires
+read-requires c κs = search needs
 
 returns : tie.Need-returns
-unfolding onTaken splitOf
+unfolding onKeyed rowOf
 returns c =
     let s = c .before .before .before in
-    row-taken _ (bytes (s .before .before)) (ap (splitOf _) (sym (c .enum-told .given .1)) ∙ s .split-line .ensures)
-
-slice-aggregate-below : tie.Need-slice-aggregate-below
-slice-aggregate-below c = search needs
-
-below-requires : tie.Need-below-requires
-below-requires c κs = search needs
+    row-keyed _ (bytes (s .before .before)) (says-unreadable _ _ (s .read .ensures) (not-true _ (c .if1 .taken)))
 
 returns-2 : tie.Need-returns-2
-unfolding onTaken rowOf rowWith
-returns-2 c = rw (sym (c .before .below .ensures) ∙ not-true _ (c .if1 .taken)) at (fields-read (c .before .before .before))
+unfolding onKeyed rowOf
+returns-2 c =
+    let s = c .before .before .before .before .before in
+    row-keyed _ (bytes (s .before .before)) (says-large _ _ (s .read .ensures) (not-false _ (c .before .before .if1 .left)) (not-true _ (c .if2 .taken)))
 
 op-of-requires : tie.Need-op-of-requires
 op-of-requires c κs = search needs
 
-array-read-t15 : tie.Need-array-read-t15
-array-read-t15 c = search needs
+slice-aggregate-row-of : tie.Need-slice-aggregate-row-of
+slice-aggregate-row-of c = search needs
 
-cast-t16 : tie.Need-cast-t16
-cast-t16 c = number-fits _ (below-all (c .before)) 0
-
-array-read-t19 : tie.Need-array-read-t19
-array-read-t19 c = search needs
-
-cast-t20 : tie.Need-cast-t20
-cast-t20 c = number-fits _ (below-all (c .before)) 1
-
-array-read-t23 : tie.Need-array-read-t23
-array-read-t23 c = search needs
-
-cast-t24 : tie.Need-cast-t24
-cast-t24 c = number-fits _ (below-all (c .before)) 2
-
-array-read-t27 : tie.Need-array-read-t27
-array-read-t27 c = search needs
-
-cast-t28 : tie.Need-cast-t28
-cast-t28 c = number-fits _ (below-all (c .before)) 3
-
-array-read-t31 : tie.Need-array-read-t31
-array-read-t31 c = search needs
-
-cast-t32 : tie.Need-cast-t32
-cast-t32 c = number-fits _ (below-all (c .before)) 4
-
-array-read-t35 : tie.Need-array-read-t35
-array-read-t35 c = search needs
-
-cast-t36 : tie.Need-cast-t36
-cast-t36 c = number-fits _ (below-all (c .before)) 5
+row-of-requires : tie.Need-row-of-requires
+row-of-requires c κs = keyed-below _ _ (key-is (c .before .before))
 
 returns-3 : tie.Need-returns-3
-unfolding onTaken rowOf rowWith
-returns-3 c = rw (c .op-of .ensures) (rw (below-all (c .before)) at (fields-read (c .before .before .before .before)))
+unfolding onKeyed rowOf
+returns-3 c =
+    let k = c .before .before .before in
+    rw (c .row-of .ensures, c .before .before .op-of .ensures) (row-keyed _ (bytes (k .before .before .before .before .before .before .before)) (key-is k))
 
 pub row-line-spec : {M : Type 1} → statement M
 row-line-spec =
     tie.close
     (tie.spec
-    slice-aggregate-split-line
-    split-line-requires
-    enum-known-key
-    enum-told
+    slice-aggregate-read
+    read-requires
     returns
-    slice-aggregate-below
-    below-requires
     returns-2
     op-of-requires
-    array-read-t15
-    cast-t16
-    array-read-t19
-    cast-t20
-    array-read-t23
-    cast-t24
-    array-read-t27
-    cast-t28
-    array-read-t31
-    cast-t32
-    array-read-t35
-    cast-t36
+    slice-aggregate-row-of
+    row-of-requires
     returns-3)

@@ -2,8 +2,8 @@
 -- Assumes nothing.
 use mathlib.Core.Path.{sym, _∙_, ap}
 use Rattle.memory.specs.FillStream.{jobTaken}
-use Rattle.lines.specs.declared.filling.Task.{Task}
-use Rattle.lines.specs.Answers.{taskOf}
+use Rattle.fill_lines.specs.declared.Task.{Task}
+use Rattle.fill_lines.specs.Answers.{taskOf}
 use borrow.Author.Needs.{needs}
 use Rattle.fillfile.proofs.line.opened.Statement.{statement}
 use Rattle.fillfile.proofs.line.opened.Tie as tie

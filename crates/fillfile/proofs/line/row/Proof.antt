@@ -4,7 +4,7 @@ use mathlib.Core.Path.{sym, _∙_, ap}
 use native.Mathlib.Omega.{arith}
 use Rattle.memory.specs.declared.Intake.{Intake}
 use Rattle.memory.specs.FillStream.{gathered}
-use Rattle.lines.specs.Answers.{givenOf}
+use Rattle.fill_lines.specs.Answers.{givenOf}
 use Rattle.fillfile.specs.Progress.{givenRow}
 use Rattle.fillfile.proofs.Rows.{row-surplus, row-due, row-faulty}
 use borrow.Author.Needs.{needs}

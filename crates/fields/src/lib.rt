@@ -1,0 +1,59 @@
+// A line to its fields: a name, told by its key, and numbers. Section "The file" of document 01, and 2 and 3 of section "The numbers".
+// `read` takes the bytes of a line before its line feed, and whether the line feed is there. Every slice is read, whatever it holds.
+ghost use mathlib.Core.Path.{_≡_};
+ghost use Prim.Native.Nat.{suc};
+ghost use lib.ListN.{length};
+ghost use Rattle.field.specs.Field.{p};
+ghost use Rattle.memory.specs.Bytes.{fieldsOf};
+ghost use Rattle.fields.specs.Keyed.{byKey, foundOf};
+use decimal::Number;
+use field::Field;
+
+// "a line holds at most 80 bytes and then one line feed"
+pub const LONGEST: usize = 80;
+
+// 3: "a number is p or more"
+const P: u64 = Field::MODULUS as u64;
+
+// What a line reads as: the key of its name, its numbers being in the slice that was lent. It meets 2 where it is not readable, and else 3 where its numbers are not
+// all below p.
+pub struct Found {
+    pub key: u64,
+    pub readable: bool,
+    pub below: bool,
+}
+
+// What a line reads as that is to have a name and as many numbers as are lent, each of its bytes read once.
+pub fn read(text: &[u8], ended: bool, numbers: &mut [u64]) -> Found
+    ensures { λ r. ⌜ foundOf (now (numbers .exit)) r ≡ byKey (fieldsOf p (suc (length (now (numbers .entry)))) (record { text = now (text .entry); ended = ended })) ⌝ }
+{
+    if LONGEST < text.len() || !ended {
+        return Found {
+            key: 0,
+            readable: false,
+            below: false,
+        };
+    }
+    let name = keys::name_of(text);
+    let mut next = name.next;
+    let mut below = true;
+    let mut i = 0;
+    while i < numbers.len() {
+        let Number::Read(value, after) = decimal::number_at(text, next) else {
+            return Found {
+                key: name.key,
+                readable: false, // 2, also where a number before it is p or more
+                below,
+            };
+        };
+        below = below & (value < P);
+        numbers[i] = value;
+        next = after;
+        i += 1;
+    }
+    Found {
+        key: name.key,
+        readable: next == text.len(),
+        below,
+    }
+}

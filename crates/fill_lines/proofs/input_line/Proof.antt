@@ -1,0 +1,76 @@
+-- `fill_lines::input_line` meets its contract: the row is that of the line's fields.
+-- Assumes nothing.
+use mathlib.Core.Path.{_≡_, _∙_}
+use native.Mathlib.Omega.{arith}
+use borrow.Author.Needs.{needs}
+use borrow.Author.Tests.{not-true, not-false}
+use Rattle.field.specs.Field.{p}
+use Rattle.memory.specs.Bytes.{fieldsOf}
+use Rattle.fields.specs.Keyed.{keyed, byKey}
+use Rattle.fields.proofs.Parts.{keyed-below, says-unreadable, says-large, says-key}
+use Rattle.keys.proofs.Keys.{Bytes}
+use Rattle.lines.proofs.Parse.{onKeyed}
+use Rattle.fill_lines.specs.Answers.{givenOf}
+use Rattle.fill_lines.proofs.Parse.{input-keyed}
+use Rattle.fill_lines.proofs.input_line.Statement.{statement}
+use Rattle.fill_lines.proofs.input_line.Tie as tie
+
+-- a slice of bytes
+bytes : (c : tie.After-shared-slice-known) → Bytes (c .before .args .text .now)
+bytes c i = omega (arith, c .shared-slice-known .given i)
+
+-- the fields of a line that meets neither 2 nor 3
+key-is :
+    (c : tie.Else2)
+    → let s = c .before .before .before .before .before in
+    let a = s .before .before .before .args in
+    keyed (s .read .result .key) (s .read .last .1 .1 .0) ≡ byKey (fieldsOf p 4 (record { text = a .text .now; ended = a .ended }))
+key-is c =
+    let s = c .before .before .before .before .before in
+    says-key _ _ (s .read .ensures) (not-false _ (c .before .before .if1 .left)) (not-false _ (c .if2 .left))
+
+slice-aggregate-read : tie.Need-slice-aggregate-read
+slice-aggregate-read c = search needs
+
+read-requires : tie.Need-read-requires
+read-requires c κs = search needs
+
+returns : tie.Need-returns
+unfolding onKeyed givenOf
+returns c =
+    let s = c .before .before .before in
+    input-keyed _ (bytes (s .before .before)) (says-unreadable _ _ (s .read .ensures) (not-true _ (c .if1 .taken)))
+
+returns-2 : tie.Need-returns-2
+unfolding onKeyed givenOf
+returns-2 c =
+    let s = c .before .before .before .before .before in
+    input-keyed _ (bytes (s .before .before)) (says-large _ _ (s .read .ensures) (not-false _ (c .before .before .if1 .left)) (not-true _ (c .if2 .taken)))
+
+op-of-requires : tie.Need-op-of-requires
+op-of-requires c κs = search needs
+
+slice-aggregate-given-row : tie.Need-slice-aggregate-given-row
+slice-aggregate-given-row c = search needs
+
+given-row-requires : tie.Need-given-row-requires
+given-row-requires c κs = keyed-below _ _ (key-is (c .before .before))
+
+returns-3 : tie.Need-returns-3
+unfolding onKeyed
+returns-3 c =
+    let k = c .before .before .before in
+    c .given-row .ensures ∙ rw (c .before .before .op-of .ensures) (input-keyed _ (bytes (k .before .before .before .before .before .before .before)) (key-is k))
+
+pub input-line-spec : {M : Type 1} → statement M
+input-line-spec =
+    tie.close
+    (tie.spec
+    slice-aggregate-read
+    read-requires
+    returns
+    returns-2
+    op-of-requires
+    slice-aggregate-given-row
+    given-row-requires
+    returns-3)

@@ -1,0 +1,127 @@
+// The lines of the filling program's input: its two names lines, its value line of three fields and its row line of four. Section "The filler" of document 01.
+// Each takes the bytes of a line before its line feed, and whether the line feed is there. Every slice is read, whatever it holds.
+ghost use mathlib.Core.Path.{_≡_};
+ghost use mathlib.Core.Bool.{true};
+ghost use lib.ListN.{getD};
+ghost use Rattle.field.specs.Field.{p};
+ghost use Rattle.memory.specs.Bytes.{allBelow};
+ghost use Rattle.memory.specs.Names.{fillNames, inputNames};
+ghost use Rattle.memory.specs.File.{namesFault};
+ghost use Rattle.memory.specs.FillFile.{fillAllowed, jobOf, parseJob, parseInput};
+ghost use Rattle.keys.specs.Keys.{knownOf};
+ghost use Rattle.fill_lines.specs.Answers.{taskOf, givenOf, inputWith};
+use keys::Known;
+use memory::Memory;
+use memory::Op;
+use memory::names::FILL_NAMES;
+use memory::names::INPUT_NAMES;
+use memory::numbers;
+use rules::sizes;
+
+// "The filling program takes size and count up to 128"
+pub const LIMIT: u32 = 128;
+
+// What the value line reads as: its values, or its fault 2, 3 or 4.
+pub enum Task {
+    Fill {
+        memory: Memory,
+        size: u32,
+        count: u32,
+    },
+    Fault(u32),
+}
+
+// What a row line reads as: a row, or its fault 2 or 3.
+pub enum Given {
+    Row {
+        op: Op,
+        guard: u32,
+        addr: u32,
+        value: u32,
+    },
+    Fault(u32),
+}
+
+// Not 4: "size or count not allowed".
+fn allowed(memory: Memory, size: u32, count: u32) -> bool
+    ensures { λ r. ⌜ r ≡ fillAllowed memory size count ⌝ }
+{
+    sizes::allowed(memory, size, count) & ((size <= LIMIT) & (count <= LIMIT))
+}
+
+// The values of the value line, or 4, from what its name is that of, and two numbers.
+fn task_of(known: Known, values: &[u64]) -> Task
+    requires { ⌜ allBelow p (now values) ≡ true ⌝ }
+    ensures { λ r. ⌜ taskOf r ≡ jobOf (knownOf known) (getD (now (values .entry)) 0 0) (getD (now (values .entry)) 1 0) ⌝ }
+{
+    let Known::Is(memory) = known else {
+        return Task::Fault(numbers::NOT_ALLOWED);
+    };
+    let size = lines::element(values, 0);
+    let count = lines::element(values, 1);
+    if !allowed(memory, size, count) {
+        return Task::Fault(numbers::NOT_ALLOWED);
+    }
+    Task::Fill {
+        memory,
+        size,
+        count,
+    }
+}
+
+// What the value line reads as.
+pub fn job_line(text: &[u8], ended: bool) -> Task
+    ensures { λ r. ⌜ taskOf r ≡ parseJob p (record { text = now (text .entry); ended = ended }) ⌝ }
+{
+    let mut values = [0u64; 2];
+    let found = fields::read(text, ended, &mut values);
+    if !found.readable {
+        return Task::Fault(numbers::UNREADABLE);
+    }
+    if !found.below {
+        return Task::Fault(numbers::TOO_LARGE);
+    }
+    task_of(keys::memory_of(found.key), &values)
+}
+
+// The row of an op and three numbers.
+fn given_row(op: Op, columns: &[u64]) -> Given
+    requires { ⌜ allBelow p (now columns) ≡ true ⌝ }
+    ensures { λ r. ⌜ givenOf r ≡ inputWith op (now (columns .entry)) ⌝ }
+{
+    Given::Row {
+        op,
+        guard: lines::element(columns, 0),
+        addr: lines::element(columns, 1),
+        value: lines::element(columns, 2),
+    }
+}
+
+// What a row line reads as.
+pub fn input_line(text: &[u8], ended: bool) -> Given
+    ensures { λ r. ⌜ givenOf r ≡ parseInput p (record { text = now (text .entry); ended = ended }) ⌝ }
+{
+    let mut columns = [0u64; 3];
+    let found = fields::read(text, ended, &mut columns);
+    if !found.readable {
+        return Given::Fault(numbers::UNREADABLE);
+    }
+    if !found.below {
+        return Given::Fault(numbers::TOO_LARGE);
+    }
+    given_row(keys::op_of(found.key), &columns)
+}
+
+// The fault of line 1, or 0.
+pub fn fill_names_line(text: &[u8], ended: bool) -> u32
+    ensures { λ r. ⌜ r ≡ namesFault fillNames (record { text = now (text .entry); ended = ended }) ⌝ }
+{
+    lines::names_fault(&FILL_NAMES, text, ended)
+}
+
+// The fault of line 3, or 0.
+pub fn input_names_line(text: &[u8], ended: bool) -> u32
+    ensures { λ r. ⌜ r ≡ namesFault inputNames (record { text = now (text .entry); ended = ended }) ⌝ }
+{
+    lines::names_fault(&INPUT_NAMES, text, ended)
+}

@@ -1,0 +1,52 @@
+-- `lines::row_of` meets its contract: each column is a number of the line.
+-- Assumes nothing.
+use mathlib.Core.Path.{_∙_}
+use borrow.Author.Needs.{needs}
+use Rattle.memory.specs.Rows.{rowWith}
+use Rattle.lines.proofs.Parse.{element-whole}
+use Rattle.lines.proofs.row_of.Statement.{statement}
+use Rattle.lines.proofs.row_of.Tie as tie
+
+element-requires : tie.Need-element-requires
+element-requires c κs = search needs
+
+element-requires-2 : tie.Need-element-requires-2
+element-requires-2 c κs = search needs
+
+element-requires-3 : tie.Need-element-requires-3
+element-requires-3 c κs = search needs
+
+element-requires-4 : tie.Need-element-requires-4
+element-requires-4 c κs = search needs
+
+element-requires-5 : tie.Need-element-requires-5
+element-requires-5 c κs = search needs
+
+element-requires-6 : tie.Need-element-requires-6
+element-requires-6 c κs = search needs
+
+returns : tie.Need-returns
+unfolding rowWith
+returns c =
+    let e = c .before .before .before in
+    let whole = element-whole _ (e .before .before .before .before .pre) in
+    rw (
+      e .before .before .element .ensures ∙ whole 0,
+      e .before .element2 .ensures ∙ whole 1,
+      e .element3 .ensures ∙ whole 2,
+      c .before .before .element4 .ensures ∙ whole 3,
+      c .before .element5 .ensures ∙ whole 4,
+      c .element6 .ensures ∙ whole 5,
+    )
+
+pub row-of-spec : {M : Type 1} → statement M
+row-of-spec =
+    tie.close
+    (tie.spec
+    element-requires
+    element-requires-2
+    element-requires-3
+    element-requires-4
+    element-requires-5
+    element-requires-6
+    returns)
