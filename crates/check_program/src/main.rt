@@ -54,7 +54,7 @@ fn write_first(text: &[u8], n: usize) {
 // Prints the two lines.
 fn print_report(report: memory::Report) {
     let mut text = [0u8; 128];
-    let print::Put::At(end) = print::report(&mut text, 0, report) else {
+    let text::Put::At(end) = print::report(&mut text, 0, report) else {
         return;
     };
     write_first(&text, end);

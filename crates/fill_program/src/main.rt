@@ -56,7 +56,7 @@ fn print_end(progress: Progress, buf: &[u8], words: &mut [u32]) {
     let mut out = [0u32; fillfile::OUTPUT];
     let mut scratch = [0u32; fillfile::SCRATCH];
     let mut text = [0u8; fillfile::TEXT];
-    let print::Put::At(end) = fillfile::finish(
+    let text::Put::At(end) = fillfile::finish(
         progress,
         buf,
         words,

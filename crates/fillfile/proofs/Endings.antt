@@ -19,8 +19,8 @@ use Rattle.pieces.proofs.Parts.{take-within}
 use Rattle.filler.specs.declared.Filled.{Filled}
 use Rattle.filler.specs.declared.Filled.the-variants.{Rows, Refused}
 use Rattle.filler.specs.Answer.{answerOf, placeOf, countOf, fillingOf}
-use Rattle.print.specs.declared.Put.{Put}
-use Rattle.print.proofs.Written.{put-text}
+use Rattle.text.specs.declared.Put.{Put}
+use Rattle.text.proofs.Written.{put-text}
 use Rattle.fillfile.specs.declared.Progress.{Progress}
 use Rattle.fillfile.specs.Progress.{leftBy}
 use Rattle.fillfile.specs.Ending.{outputRows, filledOr, answerText, Ending, endedBy, refusedWith, endingOf, Ended, endOf, Finished}

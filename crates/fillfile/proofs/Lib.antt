@@ -1,5 +1,3 @@
-pub mod Places
-pub mod Rows
 pub mod Texts
 pub mod Endings
 pub mod Program

@@ -34,12 +34,12 @@ use Rattle.pieces.specs.Block.{LinesTaken}
 use Rattle.pieces.specs.Calls.{started, joined}
 use Rattle.pieces.proofs.Feeds.{block-read}
 use Rattle.pieces.proofs.Calls.{calls-read}
-use Rattle.print.specs.declared.Put.{Put}
-use Rattle.print.proofs.Written.{put-text, put-whole}
+use Rattle.text.specs.declared.Put.{Put}
+use Rattle.text.proofs.Written.{put-text, put-whole}
 use Rattle.print.proofs.Rows.{row-in-numbers}
 use Rattle.fillfile.specs.Ending.{outputRows, filledOr, endedBy, refusedWith, endingOf, Ended, endOf}
 use Rattle.fillfile.specs.declared.Progress.{Progress}
-use Rattle.fillfile.specs.declared.block.Taken.{Taken}
+use Rattle.intake.specs.declared.Taken.{Taken}
 use Rattle.fillfile.specs.Progress.{begun, leftBy}
 use Rattle.fillfile.specs.Statements.{PiecesAreText}
 use Rattle.fillfile.proofs.Texts.{Putting}

@@ -11,10 +11,11 @@ use Rattle.memory.specs.declared.Row.{Row}
 use Rattle.memory.specs.Bytes.{feed}
 use Rattle.memory.specs.Names.{rowNames}
 use Rattle.memory.specs.Print.{rowText, rowsText, filledText}
-use Rattle.print.specs.declared.Put.{Put}
-use Rattle.print.specs.declared.Put.the-variants.{At, Full}
-use Rattle.print.specs.Put.{putOf, written, rowIn}
-use Rattle.print.proofs.Written.{written-fits, at-fits, fits-at, put-then, put-text, more-at, more-full}
+use Rattle.text.specs.declared.Put.{Put}
+use Rattle.text.specs.declared.Put.the-variants.{At, Full}
+use Rattle.text.specs.Put.{putOf, written}
+use Rattle.print.specs.Rows.{rowIn}
+use Rattle.text.proofs.Written.{written-fits, at-fits, fits-at, put-then, put-text, more-at, more-full}
 use Rattle.fillfile.specs.Ending.{outputRows}
 
 -- what a function did that put a text: its answer, and the slice afterwards

@@ -16,8 +16,9 @@ use Rattle.memory.specs.FillStream.{Gathered, lineTaken, endTaken, dueWords}
 use Rattle.pieces.specs.Calls.{Left, standsFor}
 use Rattle.filler.specs.declared.Filled.{Filled}
 use Rattle.filler.specs.Answer.{answerOf, placeOf, countOf}
-use Rattle.print.specs.declared.Put.{Put}
-use Rattle.print.specs.Put.{putOf, written, rowIn}
+use Rattle.text.specs.declared.Put.{Put}
+use Rattle.text.specs.Put.{putOf, written}
+use Rattle.print.specs.Rows.{rowIn}
 
 -- the first rows of a slice of output rows
 unfoldable pub outputRows : ℕ → List ℕ → List Row

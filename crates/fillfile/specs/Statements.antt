@@ -9,8 +9,8 @@ use Rattle.memory.specs.Filler.{room}
 use Rattle.memory.specs.FillFile.{fillLimit, fillText}
 use Rattle.memory.specs.FillStream.{Gathered, lineTaken}
 use Rattle.pieces.specs.Calls.{Call, Calls, joined, lastLeft}
-use Rattle.print.specs.declared.Put.{Put}
-use Rattle.print.specs.declared.Put.the-variants.{At}
+use Rattle.text.specs.declared.Put.{Put}
+use Rattle.text.specs.declared.Put.the-variants.{At}
 use Rattle.fillfile.specs.Progress.{begun, leftBy}
 use Rattle.fillfile.specs.Ending.{Finished}
 

@@ -1,19 +1,14 @@
-// The end of input: the last line where it is not ended, what the filler's library makes of the rows, and what is printed.
-use super::line;
+// The end of input: what the filler's library makes of the rows, and what is printed.
 use filler::Filled;
 use memory::Intake;
 use memory::Memory;
-use memory::numbers;
-use print::Put;
+use text::Put;
 ghost use mathlib.Core.Path.{_≡_};
 ghost use lib.ListN.{length};
-ghost use Rattle.field.specs.Field.{p};
-ghost use Rattle.memory.specs.Step.{raise};
 ghost use Rattle.memory.specs.Filler.{memoryCode};
 ghost use Rattle.memory.specs.Print.{filledText};
-ghost use Rattle.memory.specs.Pieces.{lastIn};
-ghost use Rattle.memory.specs.FillStream.{gathered, lineTaken, endTaken};
-ghost use Rattle.print.specs.Put.{putOf, written};
+ghost use Rattle.memory.specs.FillStream.{gathered};
+ghost use Rattle.text.specs.Put.{putOf, written};
 ghost use Rattle.fillfile.specs.Ending.{outputRows, answerText, Ended};
 
 // The number of a memory.
@@ -26,49 +21,6 @@ fn code(memory: Memory) -> u32
         Memory::Set => 2,
         Memory::Stack => 3,
         Memory::Queue => 4,
-    }
-}
-
-// Where the lines end: 1 for an empty input, 7 for a missing line 2 or 3 and for a missing row.
-fn ended(intake: Intake) -> Intake
-    ensures { λ r. ⌜ r ≡ endTaken intake ⌝ }
-{
-    if intake.answer != 0 {
-        return intake;
-    }
-    let place = intake.place;
-    match place {
-        1 => line::refuse(intake, numbers::NOT_NAMES, 1),
-        2 => line::refuse(intake, numbers::NOT_COMPLETE, 2),
-        3 => line::refuse(intake, numbers::NOT_COMPLETE, 3),
-        _ => {
-            if (intake.passed as usize) < line::due(intake) {
-                line::refuse_row(intake, numbers::NOT_COMPLETE)
-            } else {
-                intake
-            }
-        }
-    }
-}
-
-// The last line: one without its line feed is a line all the same.
-pub fn last(intake: Intake, rest: &[u8], words: &mut [u32]) -> Intake
-    ensures { λ r. ⌜ gathered r (now (words .exit)) ≡ lastIn (lineTaken p) (gathered intake (now (words .entry))) (now (rest .entry)) ⌝ }
-{
-    if rest.len() == 0 {
-        return intake;
-    }
-    line::line(intake, rest, false, words)
-}
-
-// "row k being line k + 3"
-fn line_of(place: usize) -> u32
-    ensures { λ r. ⌜ r ≡ raise place 3 ⌝ }
-{
-    if place < (u32::MAX - 3) as usize {
-        place as u32 + 3
-    } else {
-        u32::MAX
     }
 }
 
@@ -103,7 +55,7 @@ fn answer(text: &mut [u8], out: &[u32], filled: Filled) -> Put
             if number == 0 {
                 return rows(text, out, 0);
             }
-            print::refusal(text, 0, number, line_of(place))
+            print::refusal(text, 0, number, intake::line_of(place))
         }
     }
 }
@@ -118,11 +70,11 @@ pub fn finish(
 ) -> Put
     ensures { λ r. ⌜ Ended (gathered intake (now (words .entry))) (now (out .entry)) (now (out .exit)) (now (scratch .entry)) (now (scratch .exit)) (now (text .entry)) (now (text .exit)) r ⌝ }
 {
-    let intake = ended(intake);
+    let intake = intake::ended(intake);
     if intake.answer != 0 {
         return print::refusal(text, 0, intake.answer, intake.line);
     }
-    let end = decimal::smaller(4 * line::due(intake), words.len());
+    let end = decimal::smaller(4 * intake::due(intake), words.len());
     let memory = intake.memory;
     let filled = filler::fill(
         code(memory),

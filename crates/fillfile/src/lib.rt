@@ -1,11 +1,9 @@
 // The filling program's library: from the bytes of its input, read in pieces, to the bytes that it prints. Section "The filler" of document 01.
 // A caller keeps one buffer for the input and one for the words of the rows: `start`, then for each block `advance`, and `finish` at the end of input.
 use memory::Intake;
-use print::Put;
+use text::Put;
 
-mod block;
 mod ending;
-mod line;
 
 ghost use mathlib.Core.Path.{_≡_};
 ghost use lib.ListN.{length};
@@ -13,7 +11,7 @@ ghost use Rattle.field.specs.Field.{p};
 ghost use Rattle.memory.specs.FillFile.{fillText};
 ghost use Rattle.memory.specs.FillStream.{gathered, lineTaken};
 ghost use Rattle.pieces.specs.Calls.{Advanced};
-ghost use Rattle.print.specs.Put.{putOf, written};
+ghost use Rattle.text.specs.Put.{putOf, written};
 ghost use Rattle.fillfile.specs.Progress.{begun, leftBy};
 ghost use Rattle.fillfile.specs.Ending.{Finished};
 
@@ -62,7 +60,7 @@ pub fn advance(progress: Progress, buf: &mut [u8], filled: usize, words: &mut [u
     ensures { λ r. ⌜ Advanced (lineTaken p) (gathered (progress .intake) (now (words .entry))) filled (now (buf .entry)) (leftBy r (now (words .exit)) (now (buf .exit))) ⌝ }
 {
     let end = decimal::smaller(filled, buf.len());
-    let taken = block::lines_in(progress.intake, &buf[..end], words);
+    let taken = intake::lines_in(progress.intake, &buf[..end], words);
     let used = taken.used;
     let intake = taken.intake;
     let kept = pieces::keep(buf, used, end);
@@ -82,7 +80,7 @@ pub fn finish(
     ensures { λ r. ⌜ Finished (leftBy progress (now (words .entry)) (now (buf .entry))) (now (words .exit)) (now (out .entry)) (now (out .exit)) (now (scratch .entry)) (now (scratch .exit)) (now (text .entry)) (now (text .exit)) r ⌝ }
 {
     let end = decimal::smaller(progress.kept, buf.len());
-    let intake = ending::last(progress.intake, &buf[..end], words);
+    let intake = intake::last(progress.intake, &buf[..end], words);
     ending::finish(intake, &words[..], out, scratch, text)
 }
 
@@ -95,8 +93,8 @@ pub fn fill_file(input: &[u8], text: &mut [u8]) -> Put
     let mut out = [0u32; OUTPUT];
     let mut scratch = [0u32; SCRATCH];
     let begun = start();
-    let taken = block::lines_in(begun.intake, input, &mut words);
+    let taken = intake::lines_in(begun.intake, input, &mut words);
     let used = taken.used;
-    let intake = ending::last(taken.intake, &input[used..], &mut words);
+    let intake = intake::last(taken.intake, &input[used..], &mut words);
     ending::finish(intake, &words, &mut out, &mut scratch, text)
 }

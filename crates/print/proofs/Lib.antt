@@ -1,4 +1,4 @@
-pub mod Written
-pub mod Digits
+pub mod Numbers
 pub mod Texts
 pub mod Rows
+pub mod OpNames

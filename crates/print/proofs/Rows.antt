@@ -10,7 +10,7 @@ use Rattle.memory.specs.declared.Op.the-variants.{Init, Access, Look, Member, P
 use Rattle.memory.specs.declared.Row.{Row}
 use Rattle.memory.specs.Names.{opCode}
 use Rattle.memory.specs.Filler.{opCoded, rowNumbers}
-use Rattle.print.specs.Put.{cellIn, rowIn}
+use Rattle.print.specs.Rows.{cellIn, rowIn}
 
 -- an op's number is that op's
 op-coded-back : (o : Op) → opCoded (opCode o) ≡ o

@@ -1,5 +1,4 @@
-// Answers and rows to bytes: numbers, rows, the report and the refusal, put into a lent slice from a position on. Every function is total. Where a
-// text runs past the slice's end the answer is Full, and the slice holds as much of the text as there is room for.
+// Answers and rows to bytes: rows, the report and the refusal, put into a lent slice from a position on as crate text puts them. Every function is total.
 use memory::Op;
 use memory::Report;
 use memory::Row;
@@ -7,94 +6,25 @@ use memory::names::REFUSAL_NAMES;
 use memory::names::REPORT_NAMES;
 use memory::names::ROW_NAMES;
 use rules::ops;
+use text::Put;
+use text::bytes;
+use text::more;
+use text::more_number;
 ghost use mathlib.Core.Path.{_≡_};
 ghost use Prim.Native.Nat.{_<_};
 ghost use mathlib.Core.List.{[], _∷_, _++_};
 ghost use lib.ListN.{length};
-ghost use Rattle.memory.specs.Bytes.{comma, feed};
+ghost use Rattle.memory.specs.Bytes.{feed};
 ghost use Rattle.memory.specs.Names.{opName, rowNames};
-ghost use Rattle.memory.specs.Print.{numberText, rowText, reportText, refusalText};
-ghost use Rattle.print.specs.Put.{putOf, putAfter, written, writtenAfter, cellIn, rowIn};
+ghost use Rattle.memory.specs.Print.{rowText, reportText, refusalText};
+ghost use Rattle.text.specs.Put.{putOf, putAfter, written, writtenAfter};
+ghost use Rattle.print.specs.Rows.{columnsText, cellIn, rowIn};
 
-// The byte of the digit 0, and the most digits of a u32.
-const ZERO: u8 = 48;
+// The ops as the rows name them, in the order of their numbers: 7 bytes for each, of which its name takes the first. The op that is none of these has no name.
+const OP_NAMES: [u8; 70] =
+    *b"init   access look   member push   pop    enqueuedequeueend    range  ";
 
-const MOST: usize = 10;
-
-// The position after what was put, or that it did not fit.
-pub enum Put {
-    At(usize),
-    Full,
-}
-
-// Puts bytes.
-pub fn bytes(buf: &mut [u8], at: usize, text: &[u8]) -> Put
-    ensures answer { λ r. ⌜ r ≡ putOf (length (now (buf .entry))) at (now (text .entry)) ⌝ }
-    ensures slice { λ _. ⌜ now (buf .exit) ≡ written (now (buf .entry)) at (now (text .entry)) ⌝ }
-{
-    if buf.len() < at {
-        return Put::Full;
-    }
-    let mut i = 0;
-    let mut o = at;
-    while i < text.len() {
-        if buf.len() <= o {
-            return Put::Full;
-        }
-        buf[o] = text[i];
-        i += 1;
-        o += 1;
-    }
-    Put::At(o)
-}
-
-// Puts bytes after what was put before.
-fn more(buf: &mut [u8], prior: Put, text: &[u8]) -> Put
-    ensures answer { λ r. ⌜ r ≡ putAfter (length (now (buf .entry))) prior (now (text .entry)) ⌝ }
-    ensures slice { λ _. ⌜ now (buf .exit) ≡ writtenAfter (now (buf .entry)) prior (now (text .entry)) ⌝ }
-{
-    let Put::At(at) = prior else {
-        return Put::Full;
-    };
-    bytes(buf, at, text)
-}
-
-// Puts a number in decimal, without leading zeros.
-pub fn number(buf: &mut [u8], at: usize, n: u32) -> Put
-    ensures answer { λ r. ⌜ r ≡ putOf (length (now (buf .entry))) at (numberText n) ⌝ }
-    ensures slice { λ _. ⌜ now (buf .exit) ≡ written (now (buf .entry)) at (numberText n) ⌝ }
-{
-    let mut digits = [0u8; MOST];
-    let mut first = MOST - 1;
-    let mut left = n;
-    while 9 < left {
-        digits[first] = ZERO + (left % 10) as u8;
-        left = left / 10;
-        first -= 1;
-    }
-    digits[first] = ZERO + left as u8;
-    bytes(buf, at, &digits[first..])
-}
-
-// Puts a number after what was put before.
-fn more_number(buf: &mut [u8], prior: Put, n: u32) -> Put
-    ensures answer { λ r. ⌜ r ≡ putAfter (length (now (buf .entry))) prior (numberText n) ⌝ }
-    ensures slice { λ _. ⌜ now (buf .exit) ≡ writtenAfter (now (buf .entry)) prior (numberText n) ⌝ }
-{
-    let Put::At(at) = prior else {
-        return Put::Full;
-    };
-    number(buf, at, n)
-}
-
-// Puts a comma and a number after what was put before.
-fn column(buf: &mut [u8], prior: Put, n: u32) -> Put
-    ensures answer { λ r. ⌜ r ≡ putAfter (length (now (buf .entry))) prior (comma ∷ numberText n) ⌝ }
-    ensures slice { λ _. ⌜ now (buf .exit) ≡ writtenAfter (now (buf .entry)) prior (comma ∷ numberText n) ⌝ }
-{
-    let end = more(buf, prior, b",");
-    more_number(buf, end, n)
-}
+const NAME_LENGTHS: [usize; 11] = [4, 6, 4, 6, 4, 3, 7, 7, 3, 5, 0];
 
 // Puts a line feed after what was put before.
 fn end_line(buf: &mut [u8], prior: Put) -> Put
@@ -102,6 +32,21 @@ fn end_line(buf: &mut [u8], prior: Put) -> Put
     ensures slice { λ _. ⌜ now (buf .exit) ≡ writtenAfter (now (buf .entry)) prior (feed ∷ []) ⌝ }
 {
     more(buf, prior, b"\n")
+}
+
+// Puts numbers, a comma before each, and a line feed after what was put before.
+fn columns(buf: &mut [u8], prior: Put, ns: &[u32]) -> Put
+    ensures answer { λ r. ⌜ r ≡ putAfter (length (now (buf .entry))) prior (columnsText (now (ns .entry))) ⌝ }
+    ensures slice { λ _. ⌜ now (buf .exit) ≡ writtenAfter (now (buf .entry)) prior (columnsText (now (ns .entry))) ⌝ }
+{
+    let mut end = prior;
+    let mut i = 0;
+    while i < ns.len() {
+        end = more(buf, end, b",");
+        end = more_number(buf, end, ns[i]);
+        i += 1;
+    }
+    end_line(buf, end)
 }
 
 // Puts bytes and a line feed.
@@ -118,19 +63,10 @@ fn op_name(buf: &mut [u8], at: usize, op: Op) -> Put
     ensures answer { λ r. ⌜ r ≡ putOf (length (now (buf .entry))) at (opName op) ⌝ }
     ensures slice { λ _. ⌜ now (buf .exit) ≡ written (now (buf .entry)) at (opName op) ⌝ }
 {
-    match op {
-        Op::Init => bytes(buf, at, b"init"),
-        Op::Access => bytes(buf, at, b"access"),
-        Op::Look => bytes(buf, at, b"look"),
-        Op::Member => bytes(buf, at, b"member"),
-        Op::Push => bytes(buf, at, b"push"),
-        Op::Pop => bytes(buf, at, b"pop"),
-        Op::Enqueue => bytes(buf, at, b"enqueue"),
-        Op::Dequeue => bytes(buf, at, b"dequeue"),
-        Op::End => bytes(buf, at, b"end"),
-        Op::Range => bytes(buf, at, b"range"),
-        Op::Other => bytes(buf, at, b""),
-    }
+    let k = ops::code(op) as usize;
+    let from = 7 * k;
+    let end = from + NAME_LENGTHS[k];
+    bytes(buf, at, &OP_NAMES[from..end])
 }
 
 // Puts a row as its line.
@@ -140,13 +76,18 @@ pub fn row(buf: &mut [u8], at: usize, row: Row) -> Put
 {
     let op = row.op;
     let end = op_name(buf, at, op);
-    let end = column(buf, end, row.guard);
-    let end = column(buf, end, row.addr);
-    let end = column(buf, end, row.value);
-    let end = column(buf, end, row.old);
-    let end = column(buf, end, row.time);
-    let end = column(buf, end, row.version);
-    end_line(buf, end)
+    columns(
+        buf,
+        end,
+        &[
+            row.guard,
+            row.addr,
+            row.value,
+            row.old,
+            row.time,
+            row.version,
+        ],
+    )
 }
 
 // Puts the names line of the rows.
@@ -164,10 +105,7 @@ pub fn report(buf: &mut [u8], at: usize, report: Report) -> Put
 {
     let end = line(buf, at, &REPORT_NAMES);
     let end = more_number(buf, end, report.answer);
-    let end = column(buf, end, report.line);
-    let end = column(buf, end, report.inputs);
-    let end = column(buf, end, report.mults);
-    end_line(buf, end)
+    columns(buf, end, &[report.line, report.inputs, report.mults])
 }
 
 // Puts the two lines of the filler's refusal.
@@ -177,8 +115,7 @@ pub fn refusal(buf: &mut [u8], at: usize, answer: u32, place: u32) -> Put
 {
     let end = line(buf, at, &REFUSAL_NAMES);
     let end = more_number(buf, end, answer);
-    let end = column(buf, end, place);
-    end_line(buf, end)
+    columns(buf, end, &[place])
 }
 
 // The number in a column of the row at place k of a slice of output rows, 7 numbers a row; 0 where there is none.

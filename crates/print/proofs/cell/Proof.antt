@@ -6,7 +6,7 @@ use Prim.Native.Nat.{ℕ, _+_, _*_, _≤_}
 use native.Mathlib.Omega.{arith}
 use lib.ListN.{length, getD, List·getD-eq-default}
 use borrow.Author.Needs.{needs}
-use Rattle.print.specs.Put.{cellIn}
+use Rattle.print.specs.Rows.{cellIn}
 use Rattle.print.proofs.cell.Statement.{statement}
 use Rattle.print.proofs.cell.Tie as tie
 

@@ -3,7 +3,7 @@
 use mathlib.Core.Path.{ap}
 use borrow.Author.Needs.{needs}
 use Rattle.memory.specs.Print.{rowText}
-use Rattle.print.proofs.Written.{put-text}
+use Rattle.text.proofs.Written.{put-text}
 use Rattle.print.proofs.filled_row.Statement.{statement}
 use Rattle.print.proofs.filled_row.Tie as tie
 

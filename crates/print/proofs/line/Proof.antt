@@ -1,7 +1,7 @@
 -- `print::line` meets its contract: the text, and then the line feed.
 -- Assumes nothing.
 use borrow.Author.Needs.{needs}
-use Rattle.print.proofs.Written.{put-then}
+use Rattle.text.proofs.Written.{put-then}
 use Rattle.print.proofs.line.Statement.{statement}
 use Rattle.print.proofs.line.Tie as tie
 

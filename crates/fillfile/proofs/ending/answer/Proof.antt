@@ -2,7 +2,7 @@
 -- Assumes nothing.
 use mathlib.Core.Path.{_∙_, ap}
 use Rattle.memory.specs.Print.{refusalText}
-use Rattle.print.proofs.Written.{put-text}
+use Rattle.text.proofs.Written.{put-text}
 use Rattle.fillfile.proofs.Endings.{rows-answer, none-answer, refused-answer}
 use borrow.Author.Needs.{needs}
 use Rattle.fillfile.proofs.ending.answer.Statement.{statement}

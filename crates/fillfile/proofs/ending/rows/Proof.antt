@@ -6,7 +6,7 @@ use mathlib.Core.Path.{_≡_, refl, sym, _∙_}
 use lib.ListN.{length}
 use borrow.Author.Needs.{needs}
 use Rattle.memory.specs.Print.{rowsText}
-use Rattle.print.specs.declared.Put.the-variants.{At}
+use Rattle.text.specs.declared.Put.the-variants.{At}
 use Rattle.fillfile.specs.Ending.{outputRows}
 use Rattle.fillfile.proofs.Texts.{Putting, names-first, row-fits, row-cut, filled-cut, filled-put}
 use Rattle.fillfile.proofs.ending.rows.Statement.{statement}

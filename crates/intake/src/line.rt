@@ -1,0 +1,140 @@
+// One whole line of the filling program's input: line 1, the value line, line 3, and the rows.
+use super::due;
+use fill_lines::Given;
+use fill_lines::Task;
+use memory::Intake;
+use memory::Op;
+use memory::Phase;
+use memory::numbers;
+use rules::counters;
+use rules::inputs;
+use rules::ops;
+ghost use mathlib.Core.Path.{_≡_};
+ghost use Prim.Native.Nat.{_<_};
+ghost use Rattle.field.specs.Field.{p};
+ghost use Rattle.memory.specs.FillFile.{parseJob, inputLineFault};
+ghost use Rattle.memory.specs.FillStream.{gathered, refuseOn, namesTaken, jobTaken, refuseRow, inputTaken, rowTaken, lineTaken};
+ghost use Rattle.intake.specs.Words.{storedWords, givenRow};
+
+// A fault on a line.
+pub fn refuse(mut intake: Intake, answer: u32, line: u32) -> Intake
+    ensures { λ r. ⌜ r ≡ refuseOn intake answer line ⌝ }
+{
+    intake.answer = answer;
+    intake.line = line;
+    intake
+}
+
+// A fault of the next row, which stands on line passed + 4.
+pub fn refuse_row(intake: Intake, answer: u32) -> Intake
+    ensures { λ r. ⌜ r ≡ refuseRow intake answer ⌝ }
+{
+    let line = counters::raise(intake.passed, 4);
+    refuse(intake, answer, line)
+}
+
+// A names line by its fault, or 0.
+fn named(mut intake: Intake, place: u32, fault: u32) -> Intake
+    requires { ⌜ place < 4 ⌝ }
+    ensures { λ r. ⌜ r ≡ namesTaken intake place fault ⌝ }
+{
+    if fault == 0 {
+        intake.place = place + 1;
+        return intake;
+    }
+    refuse(intake, fault, place)
+}
+
+// The value line.
+fn opened(intake: Intake, text: &[u8], ended: bool) -> Intake
+    ensures { λ r. ⌜ r ≡ jobTaken intake (parseJob p (record { text = now (text .entry); ended = ended })) ⌝ }
+{
+    match fill_lines::job_line(text, ended) {
+        Task::Fill {
+            memory,
+            size,
+            count,
+        } => Intake {
+            place: 3,
+            memory,
+            size,
+            count,
+            passed: 0,
+            answer: 0,
+            line: 0,
+        },
+        Task::Fault(fault) => refuse(intake, fault, 2),
+    }
+}
+
+// 3, 5 and 6 of the next row.
+fn fault(intake: Intake, op: Op, guard: u32, addr: u32, value: u32) -> u32
+    ensures { λ r. ⌜ r ≡ inputLineFault p (intake .memory) (intake .size) (intake .passed) (givenRow op guard addr value) ⌝ }
+{
+    let memory = intake.memory;
+    let phase = if intake.passed < intake.size {
+        Phase::Starting
+    } else {
+        Phase::Operating
+    };
+    inputs::fault(memory, phase, op, guard, addr, value)
+}
+
+// Writes row k.
+fn store_row(words: &mut [u32], k: u32, op: u32, guard: u32, addr: u32, value: u32)
+    ensures { λ _. ⌜ now (words .exit) ≡ storedWords (now (words .entry)) k op guard addr value ⌝ }
+{
+    let at = 4 * (k as usize);
+    words::store(words, at, op);
+    words::store(words, at + 1, guard);
+    words::store(words, at + 2, addr);
+    words::store(words, at + 3, value);
+}
+
+// A row that is due: it is stored, or its fault is the refusal.
+fn take(mut intake: Intake, op: Op, guard: u32, addr: u32, value: u32, words: &mut [u32]) -> Intake
+    ensures { λ r. ⌜ gathered r (now (words .exit)) ≡ inputTaken p (gathered intake (now (words .entry))) (givenRow op guard addr value) ⌝ }
+{
+    let number = ops::code(op);
+    let fault = fault(intake, op, guard, addr, value);
+    if fault != 0 {
+        return refuse_row(intake, fault);
+    }
+    store_row(words, intake.passed, number, guard, addr, value);
+    intake.passed = counters::raise(intake.passed, 1);
+    intake
+}
+
+// A row line; a surplus one is 7.
+fn row(intake: Intake, text: &[u8], ended: bool, words: &mut [u32]) -> Intake
+    ensures { λ r. ⌜ gathered r (now (words .exit)) ≡ rowTaken p (gathered intake (now (words .entry))) (record { text = now (text .entry); ended = ended }) ⌝ }
+{
+    if due(intake) <= intake.passed as usize {
+        return refuse_row(intake, numbers::NOT_COMPLETE);
+    }
+    match fill_lines::input_line(text, ended) {
+        Given::Row {
+            op,
+            guard,
+            addr,
+            value,
+        } => take(intake, op, guard, addr, value, words),
+        Given::Fault(fault) => refuse_row(intake, fault),
+    }
+}
+
+// Any line: after a fault nothing is read.
+pub fn line(intake: Intake, text: &[u8], ended: bool, words: &mut [u32]) -> Intake
+    ensures { λ r. ⌜ gathered r (now (words .exit)) ≡ lineTaken p (gathered intake (now (words .entry))) (record { text = now (text .entry); ended = ended }) ⌝ }
+{
+    if intake.answer != 0 {
+        return intake;
+    }
+    let place = intake.place;
+    match place {
+        1 => named(intake, 1, fill_lines::fill_names_line(text, ended)),
+        2 => opened(intake, text, ended),
+        3 => named(intake, 3, fill_lines::input_names_line(text, ended)),
+        _ => row(intake, text, ended, words),
+    }
+}

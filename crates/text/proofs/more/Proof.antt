@@ -1,0 +1,27 @@
+-- `text::more` meets its contract, whether or not what was put before fitted.
+-- Assumes nothing.
+use borrow.Author.Needs.{needs}
+use Rattle.text.proofs.Written.{more-at, more-full}
+use Rattle.text.proofs.more.Statement.{statement}
+use Rattle.text.proofs.more.Tie as tie
+
+enum-known-prior : tie.Need-enum-known-prior
+enum-known-prior c = search needs
+
+enum-told : tie.Need-enum-told
+enum-told c = search needs
+
+returns : tie.Need-returns
+returns c = more-full _ _ (c .enum-told .given .1)
+
+bytes-requires : tie.Need-bytes-requires
+bytes-requires c κs = search needs
+
+same-length : tie.Need-same-length
+same-length c = search needs
+
+returns-2 : tie.Need-returns-2
+returns-2 c = more-at _ _ _ (c .before .before .before .before .before .prior .given .1) (c .before .before .bytes .ensures)
+
+pub more-spec : {M : Type 1} → statement M
+more-spec = tie.close (tie.spec enum-known-prior enum-told returns bytes-requires same-length returns-2)
