@@ -11,13 +11,11 @@ use rules::counters;
 use rules::due;
 
 mod state;
-mod values;
 
 ghost use mathlib.Core.Path.{_≡_};
 ghost use mathlib.Core.Bool.{cond};
 ghost use lib.Dec.{eqb};
 ghost use Rattle.field.specs.Field.{p};
-ghost use Rattle.memory.specs.File.{refused};
 ghost use Rattle.memory.specs.Step.{freshOf, takeParsed, stepOf, endOf, reportOf};
 ghost use Rattle.checker.specs.Unread.{unreadOf};
 
@@ -83,9 +81,9 @@ fn take(s: State, parsed: Parsed) -> State
     ensures { λ r. ⌜ r ≡ takeParsed p s parsed ⌝ }
 {
     let Parsed::Sound(row) = parsed else {
-        return state::refuse_next(s, line_fault(parsed));
+        return state::refuse(s, line_fault(parsed));
     };
-    if values::below(
+    if !values::below(
         row.guard,
         row.addr,
         row.value,
@@ -93,77 +91,61 @@ fn take(s: State, parsed: Parsed) -> State
         row.time,
         row.version,
     ) {
-        state::take_row(s, row)
-    } else {
-        state::refuse_next(s, numbers::TOO_LARGE)
+        return state::refuse(s, numbers::TOO_LARGE);
     }
+    state::take_row(s, row)
 }
 
 // One row, as its line reads. "a surplus line is 7 without being read"
 pub fn step(s: State, parsed: Parsed) -> State
     ensures { λ r. ⌜ r ≡ stepOf p s parsed ⌝ }
 {
-    let c = s.context;
-    if !state::takes_rows(c) {
+    if !answers::takes_rows(s.context) {
         return s;
     }
-    if due::total(c) <= c.passed as u64 {
-        return state::refuse_next(s, numbers::NOT_COMPLETE);
+    if due::total(s.context) <= s.context.passed as u64 {
+        return state::refuse(s, numbers::NOT_COMPLETE);
     }
     take(s, parsed)
 }
 
-// The end of file: 7 if rows are missing, then 9, then 10.
+// The end of file.
 pub fn end(s: State) -> State
     ensures { λ r. ⌜ r ≡ endOf s ⌝ }
 {
-    let c = s.context;
-    let ps = s.products;
-    if !state::takes_rows(c) {
+    if !answers::takes_rows(s.context) {
         return s;
     }
-    if (c.passed as u64) < due::total(c) {
-        return state::refuse_next(s, numbers::NOT_COMPLETE);
-    }
-    if ps.supplied != ps.looked {
-        return state::refuse_last(s, numbers::RANGE);
-    }
-    if (ps.written == ps.read) & (ps.enqueued == ps.dequeued) {
-        state::accept(s)
-    } else {
-        state::refuse_last(s, numbers::SHUFFLE)
-    }
-}
-
-// What is printed of a refused file.
-fn refused(answer: u32, line: u32) -> Report
-    ensures { λ r. ⌜ r ≡ refused answer line ⌝ }
-{
-    Report {
-        answer,
-        line,
-        inputs: 0,
-        mults: 0,
-    }
+    let mut o = s;
+    o.context = answers::close(s.context, s.products);
+    o
 }
 
 // What is printed of a state: "answer (0 accept), line (0 if accepted), inputs, multiplications (0 if refused)". A state that still takes rows is an incomplete file.
 pub fn report(s: State) -> Report
     ensures { λ r. ⌜ r ≡ reportOf s ⌝ }
 {
-    let c = s.context;
-    if c.answer != 0 {
-        return refused(c.answer, c.line);
+    if s.context.answer != 0 {
+        return Report {
+            answer: s.context.answer,
+            line: s.context.line,
+            inputs: 0,
+            mults: 0,
+        };
     }
-    if c.ended {
-        Report {
+    if s.context.ended {
+        return Report {
             answer: 0,
             line: 0,
-            inputs: c.inputs,
-            mults: c.mults,
-        }
-    } else {
-        refused(numbers::NOT_COMPLETE, counters::raise(c.passed, 4))
+            inputs: s.context.inputs,
+            mults: s.context.mults,
+        };
+    }
+    Report {
+        answer: numbers::NOT_COMPLETE,
+        line: counters::raise(s.context.passed, 4),
+        inputs: 0,
+        mults: 0,
     }
 }
 

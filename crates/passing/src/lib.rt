@@ -9,9 +9,6 @@ use rules::columns;
 use rules::counters;
 use rules::due;
 use rules::ops;
-
-mod gates;
-
 ghost use mathlib.Core.Path.{_≡_};
 ghost use mathlib.Core.Bool.{_&&_};
 ghost use Prim.Native.Nat.{_+_};

@@ -1,5 +1,4 @@
-// The rules that the checker and the filler share: sizes, which rows are due, what a row looks like, ages, counters, and the numbers of the ops.
-pub mod ages;
+// The rules that the checker and the filler share: sizes, which rows are due, what a row looks like, counters, and the numbers of the ops.
 pub mod columns;
 pub mod counters;
 pub mod due;

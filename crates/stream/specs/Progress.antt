@@ -4,8 +4,6 @@ use Prim.Native.Nat.{ℕ}
 use mathlib.Core.List.{List}
 use Rattle.memory.specs.declared.Stand.{Stand}
 use Rattle.memory.specs.Stream.{unopened}
-use Rattle.lines.specs.declared.Opened.{Opened}
-use Rattle.lines.specs.declared.Opened.the-variants.{Opens, Shut}
 use Rattle.pieces.specs.Calls.{Left}
 use Rattle.stream.specs.declared.Progress.{Progress}
 
@@ -16,8 +14,3 @@ begun = record { stand = unopened; kept = 0 }
 -- what a call leaves: its progress, and the buffer
 unfoldable pub leftBy : Progress → List ℕ → Left Stand
 leftBy r buffer = record { known = r .stand; kept = r .kept; buffer = buffer }
-
--- the number of a value line that is refused; 0 of any other
-unfoldable pub shutNumber : Opened → ℕ
-shutNumber (Opens memory size count challenge) = 0
-shutNumber (Shut fault) = fault

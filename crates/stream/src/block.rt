@@ -1,5 +1,4 @@
 // The lines that lie whole in a block.
-use super::line;
 use memory::Stand;
 ghost use Rattle.field.specs.Field.{p};
 ghost use Rattle.memory.specs.Stream.{lineOf};
@@ -18,7 +17,7 @@ pub fn lines_in(mut stand: Stand, block: &[u8]) -> Taken
     let mut used = 0;
     let mut at = pieces::feed_from(block, used);
     while at < block.len() {
-        stand = line::line(stand, &block[used..at], true);
+        stand = stands::line(stand, &block[used..at], true);
         used = at + 1;
         at = pieces::feed_from(block, used);
     }

@@ -5,7 +5,6 @@ use memory::numbers;
 
 mod block;
 mod ending;
-mod line;
 
 ghost use mathlib.Core.Path.{_≡_};
 ghost use Rattle.field.specs.Field.{p};
@@ -28,7 +27,7 @@ pub fn start() -> Progress
     Progress {
         stand: Stand {
             place: 1,
-            state: line::refused(numbers::NOT_NAMES, 1),
+            state: stands::refused(numbers::NOT_NAMES, 1),
         },
         kept: 0,
     }
@@ -41,9 +40,8 @@ pub fn advance(progress: Progress, buf: &mut [u8], filled: usize) -> Progress
 {
     let end = decimal::smaller(filled, buf.len());
     let taken = block::lines_in(progress.stand, &buf[..end]);
-    let used = taken.used;
     let stand = taken.stand;
-    let kept = pieces::keep(buf, used, end);
+    let kept = pieces::keep(buf, taken.used, end);
     Progress { stand, kept }
 }
 

@@ -19,8 +19,8 @@ total-requires c κs = search needs
 cast-if2 : tie.Need-cast-if2
 cast-if2 c = search needs
 
-refuse-next-requires : tie.Need-refuse-next-requires
-refuse-next-requires c κs = search needs
+refuse-requires : tie.Need-refuse-requires
+refuse-requires c κs = search needs
 
 returns-2 : tie.Need-returns-2
 unfolding stepOf
@@ -30,7 +30,7 @@ returns-2 c =
     let c4 = c3 .before in
     let c5 = c4 .before in
     simp (
-      c .refuse-next .ensures,
+      c .refuse .ensures,
       le-ltb _ _ (c1 .if2 .taken),
       ← c3 .total .ensures,
       not-false (c5 .takes-rows .result) (c4 .if1 .left),
@@ -63,7 +63,7 @@ step-spec =
     returns
     total-requires
     cast-if2
-    refuse-next-requires
+    refuse-requires
     returns-2
     take-requires
     returns-3)

@@ -1,6 +1,7 @@
 -- `checker::take` meets its contract: what the line reads as, and a row's numbers.
 -- Assumes nothing.
 use borrow.Author.Needs.{needs}
+use borrow.Author.Tests.{not-true, not-false}
 use Rattle.memory.specs.Rows.{rowBelow}
 use Rattle.memory.specs.Step.{takeParsed}
 use Rattle.checker.specs.Unread.{unreadOf}
@@ -16,37 +17,39 @@ enum-told c = search needs
 line-fault-requires : tie.Need-line-fault-requires
 line-fault-requires c κs = search needs
 
-refuse-next-requires : tie.Need-refuse-next-requires
-refuse-next-requires c κs = search needs
+refuse-requires : tie.Need-refuse-requires
+refuse-requires c κs = search needs
 
 returns : tie.Need-returns
 unfolding takeParsed unreadOf
 returns c =
     let c1 = c .before in
-    simp (c .refuse-next .ensures, c1 .line-fault .ensures, c1 .before .enum-told .given .1)
+    simp (c .refuse .ensures, c1 .line-fault .ensures, c1 .before .enum-told .given .1)
 
 below-requires : tie.Need-below-requires
 below-requires c κs = search needs
 
-take-row-requires : tie.Need-take-row-requires
-take-row-requires c κs = search needs
-
-refuse-next-requires-2 : tie.Need-refuse-next-requires-2
-refuse-next-requires-2 c κs = search needs
+refuse-requires-2 : tie.Need-refuse-requires-2
+refuse-requires-2 c κs = search needs
 
 returns-2 : tie.Need-returns-2
 unfolding takeParsed rowBelow
 returns-2 c =
     let c1 = c .before in
     let c2 = c1 .before in
-    simp (c .take-row .ensures, c2 .before .before .parsed .given .1, c1 .if1 .taken, ← c2 .below .ensures)
+    let row = c2 .before .before .parsed .given .1 in
+    simp (c .refuse2 .ensures, row, not-true (c2 .below .result) (c1 .if1 .taken), ← c2 .below .ensures)
+
+take-row-requires : tie.Need-take-row-requires
+take-row-requires c κs = search needs
 
 returns-3 : tie.Need-returns-3
 unfolding takeParsed rowBelow
 returns-3 c =
     let c1 = c .before in
     let c2 = c1 .before in
-    simp (c .refuse-next2 .ensures, c2 .before .before .parsed .given .1, c1 .if1 .left, ← c2 .below .ensures)
+    let row = c2 .before .before .parsed .given .1 in
+    simp (c .take-row .ensures, row, not-false (c2 .below .result) (c1 .if1 .left), ← c2 .below .ensures)
 
 pub take-spec : {M : Type 1} → statement M
 take-spec =
@@ -55,10 +58,10 @@ take-spec =
     enum-known-parsed
     enum-told
     line-fault-requires
-    refuse-next-requires
+    refuse-requires
     returns
     below-requires
-    take-row-requires
-    refuse-next-requires-2
+    refuse-requires-2
     returns-2
+    take-row-requires
     returns-3)

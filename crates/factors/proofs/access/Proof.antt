@@ -8,7 +8,7 @@ use Rattle.memory.specs.Equations.{accessRead, rangeRead, rangeWrite}
 use Rattle.memory.specs.Names.{opCode, isOp}
 use Rattle.memory.specs.Step.{multiply, multiplied, writtenBy, readBy, suppliedBy, lookedBy, lookupsBy, enqueuedBy}
 use Rattle.algebra.specs.Modulo.{plus}
-use Rattle.factors.proofs.Reduced.{minus-reduced, factor-last-reduced}
+use Rattle.records.proofs.Reduced.{minus-reduced, factor-last-reduced}
 use Rattle.factors.proofs.Dequeued.{nothing-dequeued}
 use Rattle.factors.proofs.access.Statement.{statement}
 use Rattle.factors.proofs.access.Tie as tie

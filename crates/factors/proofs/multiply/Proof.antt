@@ -74,34 +74,34 @@ enum-told-11 : tie.Need-enum-told-11
 enum-told-11 c = search needs
 
 returns : tie.Need-returns
-returns c = search needs
+returns c = c .init .ensures
 
 returns-2 : tie.Need-returns-2
-returns-2 c = search needs
+returns-2 c = c .access .ensures
 
 returns-3 : tie.Need-returns-3
-returns-3 c = search needs
+returns-3 c = c .look .ensures
 
 returns-4 : tie.Need-returns-4
-returns-4 c = search needs
+returns-4 c = c .member .ensures
 
 returns-5 : tie.Need-returns-5
-returns-5 c = search needs
+returns-5 c = c .push .ensures
 
 returns-6 : tie.Need-returns-6
-returns-6 c = search needs
+returns-6 c = c .pop .ensures
 
 returns-7 : tie.Need-returns-7
-returns-7 c = search needs
+returns-7 c = c .enqueue .ensures
 
 returns-8 : tie.Need-returns-8
-returns-8 c = search needs
+returns-8 c = c .dequeue .ensures
 
 returns-9 : tie.Need-returns-9
-returns-9 c = search needs
+returns-9 c = c .end .ensures
 
 returns-10 : tie.Need-returns-10
-returns-10 c = search needs
+returns-10 c = c .range .ensures
 
 returns-11 : tie.Need-returns-11
 unfolding multiply multiplied writtenBy readBy suppliedBy lookedBy lookupsBy enqueuedBy hashFrom isOp opCode popLookup

@@ -9,10 +9,20 @@ use Rattle.memory.specs.Names.{opCode, isOp}
 use Rattle.memory.specs.Step.{multiply, multiplied, writtenBy, readBy, suppliedBy, lookedBy, lookupsBy, enqueuedBy}
 use Rattle.algebra.specs.Modulo.{plus}
 use borrow.Author.Tests.{eq-eqb, ne-eqb}
-use Rattle.factors.proofs.Reduced.{minus-reduced, factor-last-reduced}
+use Rattle.records.proofs.Reduced.{minus-reduced, factor-last-reduced}
 use Rattle.factors.proofs.Dequeued.{nothing-dequeued}
 use Rattle.factors.proofs.push.Statement.{statement}
 use Rattle.factors.proofs.push.Tie as tie
+
+returns : tie.Need-returns
+unfolding multiply multiplied writtenBy readBy suppliedBy lookedBy lookupsBy enqueuedBy hashFrom isOp opCode pushWrite popLookup
+returns c =
+    let start = c .before .before in
+    simp (
+      ne-eqb _ _ (c .if1 .taken),
+      start .pre,
+      nothing-dequeued (start .args .c .memory) (start .args .row) (start .pre) refl refl,
+    )
 
 add-requires : tie.Need-add-requires
 add-requires c κs = search needs
@@ -23,32 +33,23 @@ sub-requires c κs = search needs
 by-triple-requires : tie.Need-by-triple-requires
 by-triple-requires c κs = search needs
 
-returns : tie.Need-returns
+returns-2 : tie.Need-returns-2
 unfolding plus addOf subOf multiply multiplied writtenBy readBy suppliedBy lookedBy lookupsBy enqueuedBy hashFrom isOp opCode pushWrite popLookup
-returns c =
+returns-2 c =
     let c1 = c .before in
     let c2 = c1 .before in
     let c3 = c2 .before in
-    let c5 = c3 .before .before in
+    let start = c3 .before .before in
     simp (
       c .by-triple .ensures,
       c1 .sub .ensures,
       c2 .add .ensures,
-      eq-eqb _ _ (c3 .if1 .taken),
-      c5 .pre,
-      nothing-dequeued (c5 .args .c .memory) (c5 .args .row) (c5 .pre) refl refl,
+      eq-eqb _ _ (c3 .if1 .left),
+      start .pre,
+      nothing-dequeued (start .args .c .memory) (start .args .row) (start .pre) refl refl,
       minus-reduced,
       factor-last-reduced,
     )
 
-returns-2 : tie.Need-returns-2
-unfolding plus addOf subOf multiply multiplied writtenBy readBy suppliedBy lookedBy lookupsBy enqueuedBy hashFrom isOp opCode pushWrite popLookup
-returns-2 c =
-    simp (
-      ne-eqb _ _ (c .if1 .left),
-      c .before .before .pre,
-      nothing-dequeued (c .before .before .args .c .memory) (c .before .before .args .row) (c .before .before .pre) refl refl,
-    )
-
 pub push-spec : {M : Type 1} → statement M
-push-spec = tie.close (tie.spec add-requires sub-requires by-triple-requires returns returns-2)
+push-spec = tie.close (tie.spec returns add-requires sub-requires by-triple-requires returns-2)

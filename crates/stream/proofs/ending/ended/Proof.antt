@@ -10,14 +10,8 @@ use Rattle.stream.proofs.ending.ended.Tie as tie
 refused-requires : tie.Need-refused-requires
 refused-requires c κs = search needs
 
-report-requires : tie.Need-report-requires
-report-requires c κs = search needs
-
 refused-requires-2 : tie.Need-refused-requires-2
 refused-requires-2 c κs = search needs
-
-report-requires-2 : tie.Need-report-requires-2
-report-requires-2 c κs = search needs
 
 takes-rows-requires : tie.Need-takes-rows-requires
 takes-rows-requires c κs = search needs
@@ -25,54 +19,39 @@ takes-rows-requires c κs = search needs
 refused-requires-3 : tie.Need-refused-requires-3
 refused-requires-3 c κs = search needs
 
-report-requires-3 : tie.Need-report-requires-3
-report-requires-3 c κs = search needs
-
-report-requires-4 : tie.Need-report-requires-4
-report-requires-4 c κs = search needs
-
 end-requires : tie.Need-end-requires
 end-requires c κs = search needs
 
-report-requires-5 : tie.Need-report-requires-5
-report-requires-5 c κs = search needs
-
 returns : tie.Need-returns
-returns c = c .report .ensures ∙ ap reportOf (c .before .refused .ensures) ∙ sym (end-one _ (c .before .before .match .keys1))
+returns c = ap reportOf (c .refused .ensures) ∙ sym (end-one _ (c .before .match .keys1))
 
 returns-2 : tie.Need-returns-2
-returns-2 c = c .report2 .ensures ∙ ap reportOf (c .before .refused2 .ensures) ∙ sym (end-two _ (c .before .before .match .keys2))
+returns-2 c = ap reportOf (c .refused2 .ensures) ∙ sym (end-two _ (c .before .match .keys2))
 
 returns-3 : tie.Need-returns-3
 returns-3 c =
-    let takes = c .before .before .before .takes-rows in
-    c .report3 .ensures ∙ ap reportOf (c .before .refused3 .ensures)
-    ∙ sym (end-three-due _ (c .before .before .before .before .match .keys3) (sym (takes .ensures) ∙ c .before .before .if1 .taken))
+    let takes = c .before .before .takes-rows in
+    ap reportOf (c .refused3 .ensures) ∙ sym (end-three-due _ (c .before .before .before .before .match .keys3) (sym (takes .ensures) ∙ c .before .if1 .taken))
 
 returns-4 : tie.Need-returns-4
 returns-4 c =
-    let takes = c .before .before .takes-rows in
-    c .report4 .ensures ∙ sym (end-three-refused _ (c .before .before .before .match .keys3) (sym (takes .ensures) ∙ c .before .if1 .left))
+    let takes = c .before .takes-rows in
+    sym (end-three-refused _ (c .before .before .before .match .keys3) (sym (takes .ensures) ∙ c .if1 .left))
 
 returns-5 : tie.Need-returns-5
 returns-5 c =
-    let none = c .before .before .match .rest in
-    c .report5 .ensures ∙ ap reportOf (c .before .end .ensures) ∙ sym (end-rows _ (none .0 .0 .1) (none .0 .1) (none .1))
+    let none = c .before .match .rest in
+    ap reportOf (c .end .ensures) ∙ sym (end-rows _ (none .0 .0 .1) (none .0 .1) (none .1))
 
 pub ended-spec : {M : Type 1} → statement M
 ended-spec =
     tie.close
     (tie.spec
     refused-requires
-    report-requires
     refused-requires-2
-    report-requires-2
     takes-rows-requires
     refused-requires-3
-    report-requires-3
-    report-requires-4
     end-requires
-    report-requires-5
     returns
     returns-2
     returns-3

@@ -11,8 +11,11 @@ use Rattle.stream.proofs.ending.report.Tie as tie
 ended-requires : tie.Need-ended-requires
 ended-requires c κs = search needs
 
+report-requires : tie.Need-report-requires
+report-requires c κs = search needs
+
 returns : tie.Need-returns
-returns c = c .ended .ensures ∙ sym (finish-none p _ _ (c .before .if1 .taken))
+returns c = c .report .ensures ∙ c .before .ended .ensures ∙ sym (finish-none p _ _ (c .before .before .if1 .taken))
 
 line-requires : tie.Need-line-requires
 line-requires c κs = search needs
@@ -20,8 +23,22 @@ line-requires c κs = search needs
 ended-requires-2 : tie.Need-ended-requires-2
 ended-requires-2 c κs = search needs
 
+report-requires-2 : tie.Need-report-requires-2
+report-requires-2 c κs = search needs
+
 returns-2 : tie.Need-returns-2
-returns-2 c = c .ended2 .ensures ∙ ap endReport (c .before .line .ensures) ∙ sym (finish-line p _ _ (c .before .before .if1 .left))
+returns-2 c =
+    let c2 = c .before .before in
+    c .report2 .ensures ∙ c .before .ended2 .ensures ∙ ap endReport (c2 .line .ensures) ∙ sym (finish-line p _ _ (c2 .before .if1 .left))
 
 pub report-spec : {M : Type 1} → statement M
-report-spec = tie.close (tie.spec ended-requires returns line-requires ended-requires-2 returns-2)
+report-spec =
+    tie.close
+    (tie.spec
+    ended-requires
+    report-requires
+    returns
+    line-requires
+    ended-requires-2
+    report-requires-2
+    returns-2)

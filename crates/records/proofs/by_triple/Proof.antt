@@ -1,0 +1,20 @@
+-- `records::by_triple` meets its contract.
+-- Assumes nothing.
+use borrow.Author.Needs.{needs}
+use Rattle.field.specs.Field.{mulOf, tripleOf}
+use Rattle.memory.specs.Equations.{triple, factor}
+use Rattle.records.proofs.by_triple.Statement.{statement}
+use Rattle.records.proofs.by_triple.Tie as tie
+
+triple-requires : tie.Need-triple-requires
+triple-requires c κs = search needs
+
+mul-requires : tie.Need-mul-requires
+mul-requires c κs = search needs
+
+returns : tie.Need-returns
+unfolding mulOf tripleOf triple factor
+returns c = simp (c .mul .ensures, c .before .triple .ensures)
+
+pub by-triple-spec : {M : Type 1} → statement M
+by-triple-spec = tie.close (tie.spec triple-requires mul-requires returns)

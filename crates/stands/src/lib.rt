@@ -1,0 +1,124 @@
+// One whole line of a file: line 1, the value line, line 3, and the rows.
+use lines::Opened;
+use memory::Challenge;
+use memory::Context;
+use memory::Memory;
+use memory::Products;
+use memory::Stand;
+use memory::State;
+ghost use mathlib.Core.Path.{_≡_};
+ghost use Prim.Native.Nat.{_<_};
+ghost use Rattle.field.specs.Field.{p};
+ghost use Rattle.memory.specs.File.{parseValues};
+ghost use Rattle.memory.specs.Step.{refusedState, openedOf};
+ghost use Rattle.memory.specs.Stream.{namesRead, rowNamesRead, lineOf};
+ghost use Rattle.stands.specs.Shut.{shutNumber};
+
+// A state that has refused a line before the rows.
+pub fn refused(answer: u32, line: u32) -> State
+    ensures { λ r. ⌜ r ≡ refusedState answer line ⌝ }
+{
+    State {
+        context: Context {
+            memory: Memory::Ram,
+            size: 0,
+            count: 0,
+            passed: 0,
+            pushed: 0,
+            popped: 0,
+            depths: 1,
+            inputs: 0,
+            mults: 0,
+            answer,
+            line,
+            ended: false,
+        },
+        challenge: Challenge {
+            r: 0,
+            a: 0,
+            b: 0,
+            c: 0,
+        },
+        products: Products {
+            written: 1,
+            read: 1,
+            supplied: 1,
+            looked: 1,
+            enqueued: 0,
+            dequeued: 0,
+        },
+    }
+}
+
+// A names line by its fault, or 0: the next line follows, or the file is refused on this one.
+fn named(place: u32, state: State, fault: u32) -> Stand
+    requires { ⌜ place < 4 ⌝ }
+    ensures { λ r. ⌜ r ≡ namesRead place state fault ⌝ }
+{
+    if fault == 0 {
+        return Stand {
+            place: place + 1,
+            state,
+        };
+    }
+    Stand {
+        place: 4,
+        state: refused(fault, place),
+    }
+}
+
+// The number of a value line that is refused; 0 of any other.
+fn shut_number(opened: Opened) -> u32
+    ensures { λ r. ⌜ r ≡ shutNumber opened ⌝ }
+{
+    match opened {
+        Opened::Opens { .. } => 0,
+        Opened::Shut(fault) => fault,
+    }
+}
+
+// The state that the value line makes: fresh, or refused with its number on line 2.
+fn opened(text: &[u8], ended: bool) -> State
+    ensures { λ r. ⌜ r ≡ openedOf p (parseValues p (record { text = now (text .entry); ended = ended })) ⌝ }
+{
+    let read = lines::value_line(text, ended);
+    let Opened::Opens {
+        memory,
+        size,
+        count,
+        challenge,
+    } = read
+    else {
+        return refused(shut_number(read), 2);
+    };
+    checker::fresh(memory, size, count, challenge)
+}
+
+// Line 3: where the value line was refused, the file keeps that answer.
+fn row_names(state: State, text: &[u8], ended: bool) -> Stand
+    ensures { λ r. ⌜ r ≡ rowNamesRead state (record { text = now (text .entry); ended = ended }) ⌝ }
+{
+    if !answers::takes_rows(state.context) {
+        return Stand { place: 4, state };
+    }
+    named(3, state, lines::row_names_line(text, ended))
+}
+
+// Any line.
+pub fn line(stand: Stand, text: &[u8], ended: bool) -> Stand
+    ensures { λ r. ⌜ r ≡ lineOf p stand (record { text = now (text .entry); ended = ended }) ⌝ }
+{
+    let place = stand.place;
+    match place {
+        1 => named(1, stand.state, lines::value_names_line(text, ended)),
+        2 => Stand {
+            place: 3,
+            state: opened(text, ended),
+        },
+        3 => row_names(stand.state, text, ended),
+        _ => Stand {
+            place: 4,
+            state: checker::step(stand.state, lines::row_line(text, ended)),
+        },
+    }
+}
