@@ -1,4 +1,3 @@
-pub mod Cases
 pub mod Records
 pub mod RamSound
 pub mod QueueSound

@@ -6,7 +6,6 @@ use Rattle.demands.proofs.HonestRows.{honest-rows, refused-not-right}
 use Rattle.demands.proofs.HonestFile.{honest-file-accepted, honest-run-accepted}
 use Rattle.demands.proofs.FilledFile.{filling-accepted}
 use Rattle.demands.proofs.FillTested.{tested-rows-late}
-use Rattle.demands.proofs.Cases.{cases-hold, counted-challenge, ram-products}
 
 pub promises : Promises
 promises = record {
@@ -18,7 +17,4 @@ promises = record {
   honestRun = honest-run-accepted;
   filling = filling-accepted;
   tested = tested-rows-late;
-  cases = cases-hold;
-  counted = counted-challenge;
-  products = ram-products;
 }

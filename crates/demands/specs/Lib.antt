@@ -1,3 +1,2 @@
 pub mod Statements
-pub mod Cases
 pub mod Promises

@@ -1,7 +1,6 @@
 -- Every statement of this crate, as the fields of one record: a proof of it is a proof of each. (Promises: promises)
 -- Assumes nothing.
 use Rattle.demands.specs.Statements.{DemandAt, DemandThree, HonestRows, RefusedNotRight, HonestFileAccepted, HonestRunAccepted, FillingAccepted, TestedRowsLate}
-use Rattle.demands.specs.Cases.{CasesHold, CountedChallenge, RamProducts}
 
 pub record Promises : Type 0 where
   pub demandAt : DemandAt
@@ -12,6 +11,3 @@ pub record Promises : Type 0 where
   pub honestRun : HonestRunAccepted
   pub filling : FillingAccepted
   pub tested : TestedRowsLate
-  pub cases : CasesHold
-  pub counted : CountedChallenge
-  pub products : RamProducts

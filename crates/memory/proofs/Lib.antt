@@ -1,3 +1,4 @@
+pub mod Cases
 pub mod Ages
 pub mod Lookups
 pub mod HonestLookups

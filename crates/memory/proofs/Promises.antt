@@ -8,6 +8,7 @@ use Rattle.memory.proofs.Factors.{factors-counted, choices-counted, has
 use Rattle.memory.proofs.Stream.{stream-is-file}
 use Rattle.memory.proofs.FillStream.{fill-stream-is-text}
 use Rattle.memory.proofs.FillLength.{fill-text-short}
+use Rattle.memory.proofs.Cases.{cases-hold, counted-challenge, ram-products}
 
 pub promises : Promises
 promises = record {
@@ -25,4 +26,7 @@ promises = record {
   streamIsFile = stream-is-file;
   fillText = fill-stream-is-text;
   short = fill-text-short;
+  cases = cases-hold;
+  counted = counted-challenge;
+  products = ram-products;
 }

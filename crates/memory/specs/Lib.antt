@@ -16,4 +16,5 @@ pub mod Statements
 pub mod Print
 pub mod Stream
 pub mod FillFile
+pub mod Cases
 pub mod Promises
