@@ -16,3 +16,4 @@ pub mod Progress
 pub mod FirstFault
 pub mod InitRows
 pub mod Whole
+pub mod Tags

@@ -98,9 +98,7 @@ fn leveled(m: Memory, level: usize, op: u32, guard: u32) -> usize
     ensures { λ r. ⌜ r ≡ leveled m level op guard ⌝ }
 {
     match m {
-        Memory::Ram => level,
-        Memory::Rom => level,
-        Memory::Set => level,
+        Memory::Ram | Memory::Rom | Memory::Set => level,
         Memory::Stack => moved(op == PUSH, guard, level),
         Memory::Queue => moved(op == ENQUEUE, guard, level),
     }

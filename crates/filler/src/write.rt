@@ -18,11 +18,8 @@ fn width(m: Memory, n: usize, t: usize) -> usize
     ensures { λ r. ⌜ r ≡ widthOf m n t ⌝ }
 {
     match m {
-        Memory::Ram => n,
-        Memory::Rom => n,
-        Memory::Set => n,
-        Memory::Stack => t,
-        Memory::Queue => t,
+        Memory::Ram | Memory::Rom | Memory::Set => n,
+        Memory::Stack | Memory::Queue => t,
     }
 }
 

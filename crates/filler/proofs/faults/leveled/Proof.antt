@@ -1,6 +1,16 @@
 -- `filler::faults::leveled` meets its contract.
 -- Assumes nothing.
+use Prim.Native.Nat.{ℕ}
+use native.Mathlib.Omega.{arith}
+use mathlib.Core.Path.{_≡_, refl}
+use mathlib.Core.List.{[], _∷_}
+use types.Run.{OneOf}
+use denote.Enum.Declared.{tagOf}
+use Rattle.memory.proofs.Memory.{the-type}
+use Rattle.memory.specs.declared.Memory.{Memory}
+use Rattle.memory.specs.declared.Memory.the-variants.{Ram, Rom, Set, Stack, Queue}
 use Rattle.filler.specs.Scan.{leveled}
+use Rattle.filler.proofs.Tags.{up-to-2}
 use borrow.Author.Needs.{needs}
 use Rattle.filler.proofs.faults.leveled.Statement.{statement}
 use Rattle.filler.proofs.faults.leveled.Tie as tie
@@ -8,57 +18,35 @@ use Rattle.filler.proofs.faults.leveled.Tie as tie
 enum-told : tie.Need-enum-told
 enum-told c = search needs
 
-enum-told-2 : tie.Need-enum-told-2
-enum-told-2 c = search needs
-
-enum-told-3 : tie.Need-enum-told-3
-enum-told-3 c = search needs
-
-enum-told-4 : tie.Need-enum-told-4
-enum-told-4 c = search needs
-
 moved-requires : tie.Need-moved-requires
 moved-requires c κs = search needs
 
-enum-told-5 : tie.Need-enum-told-5
-enum-told-5 c = search needs
+enum-told-2 : tie.Need-enum-told-2
+enum-told-2 c = search needs
 
 moved-requires-2 : tie.Need-moved-requires-2
 moved-requires-2 c κs = search needs
 
-returns : tie.Need-returns
+sized-level : (m : Memory) (level o g : ℕ) → OneOf (0 ∷ 1 ∷ 2 ∷ []) (tagOf the-type m) → level ≡ leveled m level o g
 unfolding leveled
-returns c = simp (c .enum-told .given .1)
+sized-level Ram level o g h = refl
+sized-level Rom level o g h = refl
+sized-level Set level o g h = refl
+sized-level Stack level o g h = absurd (omega (arith, up-to-2 3 h))
+sized-level Queue level o g h = absurd (omega (arith, up-to-2 4 h))
+
+returns : tie.Need-returns
+returns c = let at = c .before .args in sized-level (at .m) (at .level) (at .op) (at .guard) (c .match .keys1)
 
 returns-2 : tie.Need-returns-2
 unfolding leveled
-returns-2 c = simp (c .enum-told2 .given .1)
+returns-2 c = simp (c .before .enum-told .given .1, c .moved .ensures)
 
 returns-3 : tie.Need-returns-3
 unfolding leveled
-returns-3 c = simp (c .enum-told3 .given .1)
-
-returns-4 : tie.Need-returns-4
-unfolding leveled
-returns-4 c = simp (c .before .enum-told4 .given .1, c .moved .ensures)
-
-returns-5 : tie.Need-returns-5
-unfolding leveled
-returns-5 c = simp (c .before .enum-told5 .given .1, c .moved2 .ensures)
+returns-3 c = simp (c .before .enum-told2 .given .1, c .moved2 .ensures)
 
 pub leveled-spec : {M : Type 1} → statement M
 leveled-spec =
     tie.close
-    (tie.spec
-    enum-told
-    enum-told-2
-    enum-told-3
-    enum-told-4
-    moved-requires
-    enum-told-5
-    moved-requires-2
-    returns
-    returns-2
-    returns-3
-    returns-4
-    returns-5)
+    (tie.spec enum-told moved-requires enum-told-2 moved-requires-2 returns returns-2 returns-3)

@@ -1,56 +1,40 @@
 -- `filler::write::width` meets its contract.
 -- Assumes nothing.
+use Prim.Native.Nat.{ℕ}
+use native.Mathlib.Omega.{arith}
+use mathlib.Core.Path.{_≡_, refl}
+use mathlib.Core.List.{[], _∷_}
+use types.Run.{OneOf}
+use denote.Enum.Declared.{tagOf}
+use Rattle.memory.proofs.Memory.{the-type}
+use Rattle.memory.specs.declared.Memory.{Memory}
+use Rattle.memory.specs.declared.Memory.the-variants.{Ram, Rom, Set, Stack, Queue}
 use Rattle.filler.specs.Write.{widthOf}
-use borrow.Author.Needs.{needs}
+use Rattle.filler.proofs.Tags.{up-to-2, from-3}
 use Rattle.filler.proofs.write.width.Statement.{statement}
 use Rattle.filler.proofs.write.width.Tie as tie
 
-enum-told : tie.Need-enum-told
-enum-told c = search needs
+sized-width : (m : Memory) (n t : ℕ) → OneOf (0 ∷ 1 ∷ 2 ∷ []) (tagOf the-type m) → n ≡ widthOf m n t
+unfolding widthOf
+sized-width Ram n t h = refl
+sized-width Rom n t h = refl
+sized-width Set n t h = refl
+sized-width Stack n t h = absurd (omega (arith, up-to-2 3 h))
+sized-width Queue n t h = absurd (omega (arith, up-to-2 4 h))
 
-enum-told-2 : tie.Need-enum-told-2
-enum-told-2 c = search needs
-
-enum-told-3 : tie.Need-enum-told-3
-enum-told-3 c = search needs
-
-enum-told-4 : tie.Need-enum-told-4
-enum-told-4 c = search needs
-
-enum-told-5 : tie.Need-enum-told-5
-enum-told-5 c = search needs
+counted-width : (m : Memory) (n t : ℕ) → OneOf (3 ∷ 4 ∷ []) (tagOf the-type m) → t ≡ widthOf m n t
+unfolding widthOf
+counted-width Ram n t h = absurd (omega (arith, from-3 0 h))
+counted-width Rom n t h = absurd (omega (arith, from-3 1 h))
+counted-width Set n t h = absurd (omega (arith, from-3 2 h))
+counted-width Stack n t h = refl
+counted-width Queue n t h = refl
 
 returns : tie.Need-returns
-unfolding widthOf
-returns c = simp (c .enum-told .given .1)
+returns c = let at = c .before .args in sized-width (at .m) (at .n) (at .t) (c .match .keys1)
 
 returns-2 : tie.Need-returns-2
-unfolding widthOf
-returns-2 c = simp (c .enum-told2 .given .1)
-
-returns-3 : tie.Need-returns-3
-unfolding widthOf
-returns-3 c = simp (c .enum-told3 .given .1)
-
-returns-4 : tie.Need-returns-4
-unfolding widthOf
-returns-4 c = simp (c .enum-told4 .given .1)
-
-returns-5 : tie.Need-returns-5
-unfolding widthOf
-returns-5 c = simp (c .enum-told5 .given .1)
+returns-2 c = let at = c .before .args in counted-width (at .m) (at .n) (at .t) (c .match .keys2)
 
 pub width-spec : {M : Type 1} → statement M
-width-spec =
-    tie.close
-    (tie.spec
-    enum-told
-    enum-told-2
-    enum-told-3
-    enum-told-4
-    enum-told-5
-    returns
-    returns-2
-    returns-3
-    returns-4
-    returns-5)
+width-spec = tie.close (tie.spec returns returns-2)

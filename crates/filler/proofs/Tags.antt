@@ -1,0 +1,18 @@
+-- The memories that an arm names together, by their places among the five.
+--     up-to-2    ram, rom and set, which have a size
+--     from-3     stack and queue, which have none
+-- Assumes nothing.
+use Prim.Native.Nat.{ℕ, _≤_}
+use native.Mathlib.Omega.{arith}
+use mathlib.Core.Logic.{inl, inr}
+use mathlib.Core.List.{[], _∷_}
+use types.Run.{OneOf}
+
+pub up-to-2 : (tag : ℕ) → OneOf (0 ∷ 1 ∷ 2 ∷ []) tag → tag ≤ 2
+up-to-2 tag (inl e) = omega (arith, e)
+up-to-2 tag (inr (inl e)) = omega (arith, e)
+up-to-2 tag (inr (inr e)) = omega (arith, e)
+
+pub from-3 : (tag : ℕ) → OneOf (3 ∷ 4 ∷ []) tag → 3 ≤ tag
+from-3 tag (inl e) = omega (arith, e)
+from-3 tag (inr e) = omega (arith, e)
