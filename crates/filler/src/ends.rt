@@ -101,8 +101,7 @@ pub fn finish(
 {
     match m {
         Memory::Ram => cells_and_ranges(w, t, w, scratch, out),
-        Memory::Rom => value_ends(w, inits, scratch, out),
-        Memory::Set => value_ends(w, inits, scratch, out),
+        Memory::Rom | Memory::Set => value_ends(w, inits, scratch, out),
         Memory::Stack => cells_and_ranges(w, t, at.tail, scratch, out),
         Memory::Queue => cell_ends(w, at.head, at.tail - at.head, scratch, out),
     }

@@ -70,8 +70,7 @@ fn refusal(m: Memory, n: usize, level: usize, row: Input, inits: &[u32], links: 
     ensures { λ r. ⌜ r ≡ refusal m (valuesIn (now (inits .entry))) level (row .op) (row .guard) (row .addr) (row .value) ⌝ }
 {
     match m {
-        Memory::Ram => outside(row.addr, level),
-        Memory::Rom => outside(row.addr, level),
+        Memory::Ram | Memory::Rom => outside(row.addr, level),
         Memory::Set => missing(n, inits, links, row.value),
         Memory::Stack => emptied(row.op == PUSH, row.guard, level),
         Memory::Queue => emptied(row.op == ENQUEUE, row.guard, level),
