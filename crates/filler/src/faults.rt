@@ -1,5 +1,6 @@
 // The first fault of the input rows. Nothing is written: of a ram and a rom the number of cells matters, of a stack and a queue the depth, of a set the
 // init values. The number of cells, or the depth, is the level.
+use super::steps;
 use memory::Memory;
 use memory::Phase;
 use memory::numbers;
@@ -145,7 +146,7 @@ pub(crate) fn scan_inits(n: usize, inits: &[u32]) -> Fault
 {
     let mut k = 0;
     while k < n {
-        let number = init_fault(words::read(inits, k));
+        let number = init_fault(steps::read(inits, k));
         if number != 0 {
             return Fault {
                 number,
@@ -176,7 +177,7 @@ pub(crate) fn scan_operations(
     let mut level = n;
     let mut k = 0;
     while k < t {
-        let row = words::read(ops, k);
+        let row = steps::read(ops, k);
         let number = operation_fault(m, n, level, row, inits, links);
         if number != 0 {
             return Fault {

@@ -57,7 +57,7 @@ fn copy_inits(n: usize, inits: &[u32], out: &mut [u32])
 {
     let mut k = 0;
     while k < n {
-        words::put(k, words::read(inits, k), 0, 0, 0, out);
+        words::put(k, steps::read(inits, k), 0, 0, 0, out);
         k += 1;
     }
 }

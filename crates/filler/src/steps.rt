@@ -6,10 +6,11 @@ use memory::Memory;
 use words::Input;
 ghost use mathlib.Core.Bool.{cond};
 ghost use mathlib.Core.Path.{_≡_};
-ghost use Prim.Native.Nat.{_+_, _*_, _<_};
+ghost use Prim.Native.Nat.{_+_, _*_, _≤_, _<_};
 ghost use lib.Dec.{eqb};
 ghost use lib.ListN.{length, getD, set};
 ghost use Rattle.memory.specs.Rows.{limit};
+ghost use Rattle.words.specs.Inputs.{inputAt};
 ghost use Rattle.filler.specs.Words.{RowFits};
 ghost use Rattle.filler.specs.Steps.{Turned, Advised, ramTold, Timely, romTold, RomReady, setTold, SetReady, pushTold, PushReady, popTold, PopReady, enqueueTold, EnqueueReady, dequeueTold, DequeueReady, stackTold, StackReady, queueTold, QueueReady, toldBy, ReadyBy, turn, advanced, Ready};
 
@@ -26,6 +27,20 @@ pub struct Advice {
     pub time: u32,
     pub version: u32,
     pub next: Cursor,
+}
+
+// Reads input row k.
+pub fn read(rows: &[u32], k: usize) -> Input
+    requires { ⌜ 4 * k + 4 ≤ length (now rows) ⌝ }
+    ensures { λ r. ⌜ r ≡ inputAt (now (rows .entry)) k ⌝ }
+{
+    let from = 4 * k;
+    Input {
+        op: rows[from],
+        guard: rows[from + 1],
+        addr: rows[from + 2],
+        value: rows[from + 3],
+    }
 }
 
 const PUSH: u32 = 4;
@@ -273,7 +288,7 @@ pub fn step(
     ensures turned { λ _. ⌜ Turned k (turn m w k at (now (inits .entry)) (now (ops .entry)) (now (scratch .entry))) (now (out .entry)) (now (out .exit)) (now (scratch .exit)) ⌝ }
     ensures next { λ r. ⌜ r ≡ advanced m k at (now (ops .entry)) ⌝ }
 {
-    let row = words::read(ops, k);
+    let row = read(ops, k);
     let advice = advise(m, w, at, row, inits, scratch);
     words::put(k, row, advice.old, advice.time, advice.version, out);
     let next = advice.next;

@@ -5,7 +5,6 @@ ghost use mathlib.Core.List.{[], _∷_};
 ghost use Prim.Native.Nat.{_*_, _≤_};
 ghost use lib.ListN.{length, getD, set, replicate};
 ghost use lib.Seq.{sets};
-ghost use Rattle.words.specs.Inputs.{inputAt};
 
 // Every word becomes 0.
 pub fn clear(words: &mut [u32])
@@ -49,27 +48,6 @@ pub struct Input {
     pub guard: u32,
     pub addr: u32,
     pub value: u32,
-}
-
-// Reads input row k.
-pub fn read(rows: &[u32], k: usize) -> Input
-    ensures { λ r. ⌜ r ≡ inputAt (now (rows .entry)) k ⌝ }
-{
-    if rows.len() <= k {
-        return Input {
-            op: 0,
-            guard: 0,
-            addr: 0,
-            value: 0,
-        };
-    }
-    let from = 4 * k;
-    Input {
-        op: word(rows, from),
-        guard: word(rows, from + 1),
-        addr: word(rows, from + 2),
-        value: word(rows, from + 3),
-    }
 }
 
 // "Op, guard, addr and value are copied": the first four words of an output row, from a place on.
