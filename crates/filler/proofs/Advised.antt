@@ -13,11 +13,10 @@ use lib.Seq.{sets}
 use Rattle.memory.specs.declared.Memory.{Memory}
 use Rattle.memory.specs.declared.Memory.the-variants.{Ram, Rom, Set, Stack, Queue}
 use Rattle.words.specs.declared.Input.{Input}
-use Rattle.words.specs.Inputs as words
 use Rattle.index.specs.Values.{valueAt}
 use Rattle.filler.specs.declared.steps.Cursor.{Cursor}
 use Rattle.filler.specs.declared.steps.Advice.{Advice}
-use Rattle.filler.specs.Words.{opAt, guardAt, addrAt}
+use Rattle.filler.specs.Words.{opAt, guardAt, addrAt, wordsAt}
 use Rattle.filler.specs.Steps.{told, counted, slotOf, popTime, ramTold, romTold, setTold, pushTold, pushed, popTold, popped, stackTold, stacked, enqueueTold, enqueued, dequeueTold, dequeued, queueTold, queued, Told, Advised, Turned, toldBy, ReadyBy, turn, advanced, Ready}
 
 pop-next : (w : ℕ) (at : Cursor) (g : ℕ) (s : List ℕ) → popTold w at g s .advice .next ≡ popped at g
@@ -48,7 +47,7 @@ told-next Queue w k at inits ops s = go (eqb (opAt ops k) 6)
     go true = refl
     go false = refl
 
-module _ (m : Memory) (w k : ℕ) (at : Cursor) (inits ops s : List ℕ) {row : Input} (is : row ≡ words.inputAt ops k) where
+module _ (m : Memory) (w k : ℕ) (at : Cursor) (inits ops s : List ℕ) {row : Input} (is : row ≡ wordsAt ops k) where
   abbrev toldOf : Input → Told
   toldOf r = toldBy m w at (r .op) (r .guard) (r .addr) (r .value) inits s
 
@@ -60,7 +59,7 @@ module _ (m : Memory) (w k : ℕ) (at : Cursor) (inits ops s : List ℕ) {row : 
       → Turned k (turn m w k at inits ops s) out out′ s′ × (r .next ≡ advanced m k at ops)
   unfolding turn
   told-turned {r} {s′} a out put =
-      let advice : r ≡ toldOf (words.inputAt ops k) .advice = a .advice ∙ ap (λ (x : Input). toldOf x .advice) is in (
+      let advice : r ≡ toldOf (wordsAt ops k) .advice = a .advice ∙ ap (λ (x : Input). toldOf x .advice) is in (
         record {
           row = put ∙ (λ i. sets out (7 * k) (is i .op ∷ is i .guard ∷ is i .addr ∷ is i .value ∷ advice i .old ∷ advice i .time ∷ advice i .version ∷ []));
           kept = a .kept ∙ ap (λ (x : Input). toldOf x .scratch) is;

@@ -22,8 +22,7 @@ use Rattle.memory.specs.Names.{opCode}
 use Rattle.memory.specs.Rows.{opsDue}
 use Rattle.memory.specs.Filler.{opCoded, inputsIn, inputFault, placed}
 use Rattle.words.specs.declared.Input as words
-use Rattle.words.specs.Inputs as inputs
-use Rattle.filler.specs.Words.{opAt, guardAt, inputOf, inputAt}
+use Rattle.filler.specs.Words.{opAt, guardAt, inputOf, inputAt, wordsAt}
 use Rattle.filler.specs.Scan.{emptied, refusal, moved, leveled, faultAt, scanned, initFault, initsScanned}
 use Rattle.filler.proofs.Inputs.{inputs-cons}
 use Rattle.filler.proofs.Forms.{is-coded, input}
@@ -53,7 +52,7 @@ fault-by-words q m values level o g a v =
     ap (λ (r : ℕ). cond (eqb f 0) r f) (refusal-coded m values level o g a v)
 
 -- the words of an input row, as they are read
-pub read-is : (rows : List ℕ) (k : ℕ) {row : words.Input} → row ≡ inputs.inputAt rows k → inputOf row ≡ inputAt rows k
+pub read-is : (rows : List ℕ) (k : ℕ) {row : words.Input} → row ≡ wordsAt rows k → inputOf row ≡ inputAt rows k
 unfolding inputAt
 read-is rows k is = ap inputOf is
 

@@ -21,6 +21,10 @@ guardAt inputs k = getD inputs (4 * k + 1) 0
 abbrev pub addrAt : List ℕ → ℕ → ℕ
 addrAt inputs k = getD inputs (4 * k + 2) 0
 
+-- all four of them
+abbrev pub wordsAt : List ℕ → ℕ → words.Input
+wordsAt inputs k = record { op = opAt inputs k; guard = guardAt inputs k; addr = addrAt inputs k; value = valueAt inputs k }
+
 -- the input row that four words stand for
 abbrev pub inputOf : words.Input → Input
 inputOf row = record { op = opCoded (row .op); guard = row .guard; addr = row .addr; value = row .value }

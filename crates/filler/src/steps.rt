@@ -10,8 +10,7 @@ ghost use Prim.Native.Nat.{_+_, _*_, _≤_, _<_};
 ghost use lib.Dec.{eqb};
 ghost use lib.ListN.{length, getD, set};
 ghost use Rattle.memory.specs.Rows.{limit};
-ghost use Rattle.words.specs.Inputs.{inputAt};
-ghost use Rattle.filler.specs.Words.{RowFits};
+ghost use Rattle.filler.specs.Words.{wordsAt, RowFits};
 ghost use Rattle.filler.specs.Steps.{Turned, Advised, ramTold, Timely, romTold, RomReady, setTold, SetReady, pushTold, PushReady, popTold, PopReady, enqueueTold, EnqueueReady, dequeueTold, DequeueReady, stackTold, StackReady, queueTold, QueueReady, toldBy, ReadyBy, turn, advanced, Ready};
 
 // The clock, and where the cells begin and end that a stack or a queue holds.
@@ -32,7 +31,7 @@ pub struct Advice {
 // Reads input row k.
 pub fn read(rows: &[u32], k: usize) -> Input
     requires { ⌜ 4 * k + 4 ≤ length (now rows) ⌝ }
-    ensures { λ r. ⌜ r ≡ inputAt (now (rows .entry)) k ⌝ }
+    ensures { λ r. ⌜ r ≡ wordsAt (now (rows .entry)) k ⌝ }
 {
     let from = 4 * k;
     Input {
