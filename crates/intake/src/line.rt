@@ -15,6 +15,7 @@ ghost use Rattle.field.specs.Field.{p};
 ghost use Rattle.memory.specs.FillFile.{parseJob, inputLineFault};
 ghost use Rattle.memory.specs.FillStream.{gathered, refuseOn, namesTaken, jobTaken, refuseRow, inputTaken, rowTaken, lineTaken};
 ghost use Rattle.intake.specs.Words.{storedWords, givenRow};
+ghost use Rattle.intake.specs.Faults.{taskFault, givenFault};
 
 // A fault on a line.
 pub fn refuse(mut intake: Intake, answer: u32, line: u32) -> Intake
@@ -45,25 +46,37 @@ fn named(mut intake: Intake, place: u32, fault: u32) -> Intake
     refuse(intake, fault, place)
 }
 
-// The value line.
+// The number of a value line that is refused, 2, 3 or 4; 0 of any other.
+fn task_fault(task: Task) -> u32
+    ensures { λ r. ⌜ r ≡ taskFault task ⌝ }
+{
+    match task {
+        Task::Fill { .. } => 0,
+        Task::Fault(fault) => fault,
+    }
+}
+
+// The value line: its values, or refused with its number on line 2.
 fn opened(intake: Intake, text: &[u8], ended: bool) -> Intake
     ensures { λ r. ⌜ r ≡ jobTaken intake (parseJob p (record { text = now (text .entry); ended = ended })) ⌝ }
 {
-    match fill_lines::job_line(text, ended) {
-        Task::Fill {
-            memory,
-            size,
-            count,
-        } => Intake {
-            place: 3,
-            memory,
-            size,
-            count,
-            passed: 0,
-            answer: 0,
-            line: 0,
-        },
-        Task::Fault(fault) => refuse(intake, fault, 2),
+    let read = fill_lines::job_line(text, ended);
+    let Task::Fill {
+        memory,
+        size,
+        count,
+    } = read
+    else {
+        return refuse(intake, task_fault(read), 2);
+    };
+    Intake {
+        place: 3,
+        memory,
+        size,
+        count,
+        passed: 0,
+        answer: 0,
+        line: 0,
     }
 }
 
@@ -105,6 +118,16 @@ fn take(mut intake: Intake, op: Op, guard: u32, addr: u32, value: u32, words: &m
     intake
 }
 
+// The number of a row line that is refused, 2 or 3; 0 of any other.
+fn given_fault(given: Given) -> u32
+    ensures { λ r. ⌜ r ≡ givenFault given ⌝ }
+{
+    match given {
+        Given::Row { .. } => 0,
+        Given::Fault(fault) => fault,
+    }
+}
+
 // A row line; a surplus one is 7.
 fn row(intake: Intake, text: &[u8], ended: bool, words: &mut [u32]) -> Intake
     ensures { λ r. ⌜ gathered r (now (words .exit)) ≡ rowTaken p (gathered intake (now (words .entry))) (record { text = now (text .entry); ended = ended }) ⌝ }
@@ -112,15 +135,17 @@ fn row(intake: Intake, text: &[u8], ended: bool, words: &mut [u32]) -> Intake
     if due(intake) <= intake.passed as usize {
         return refuse_row(intake, numbers::NOT_COMPLETE);
     }
-    match fill_lines::input_line(text, ended) {
-        Given::Row {
-            op,
-            guard,
-            addr,
-            value,
-        } => take(intake, op, guard, addr, value, words),
-        Given::Fault(fault) => refuse_row(intake, fault),
-    }
+    let read = fill_lines::input_line(text, ended);
+    let Given::Row {
+        op,
+        guard,
+        addr,
+        value,
+    } = read
+    else {
+        return refuse_row(intake, given_fault(read));
+    };
+    take(intake, op, guard, addr, value, words)
 }
 
 // Any line: after a fault nothing is read.

@@ -3,9 +3,10 @@
 use mathlib.Core.Path.{sym, _∙_, ap}
 use native.Mathlib.Omega.{arith}
 use Rattle.memory.specs.declared.Intake.{Intake}
-use Rattle.memory.specs.FillStream.{gathered}
+use Rattle.memory.specs.FillStream.{gathered, refuseRow}
 use Rattle.fill_lines.specs.Answers.{givenOf}
 use Rattle.intake.specs.Words.{givenRow}
+use Rattle.intake.specs.Faults.{givenFault}
 use Rattle.intake.proofs.Rows.{row-surplus, row-due, row-faulty}
 use borrow.Author.Needs.{needs}
 use Rattle.intake.proofs.line.row.Statement.{statement}
@@ -29,36 +30,40 @@ returns c =
 input-line-requires : tie.Need-input-line-requires
 input-line-requires c κs = search needs
 
-enum-known-op : tie.Need-enum-known-op
-enum-known-op c = search needs
+enum-known-read : tie.Need-enum-known-read
+enum-known-read c = search needs
 
-take-requires : tie.Need-take-requires
-take-requires c κs = search needs
+enum-told : tie.Need-enum-told
+enum-told c = search needs
 
-enum-known-fault : tie.Need-enum-known-fault
-enum-known-fault c = search needs
+given-fault-requires : tie.Need-given-fault-requires
+given-fault-requires c κs = search needs
 
 refuse-row-requires-2 : tie.Need-refuse-row-requires-2
 refuse-row-requires-2 c κs = search needs
 
+returns-2 : tie.Need-returns-2
+unfolding givenOf givenFault
+returns-2 c =
+    let a = c .before .before .before .before .before .before .before .before .before .before .args in
+    let told = c .before .before .enum-told .given .1 in
+    ap (λ (i : Intake). gathered i (a .words .now)) (c .refuse-row2 .ensures ∙ ap (refuseRow (a .intake)) (c .before .given-fault .ensures ∙ ap givenFault told))
+    ∙ row-faulty (a .intake) (a .words .now) _ (omega (arith, c .before .before .before .before .before .before .before .due .ensures, c .before .before .before .before .before .if1 .left))
+    (ap givenOf (sym told) ∙ c .before .before .before .before .input-line .ensures)
+
+take-requires : tie.Need-take-requires
+take-requires c κs = search needs
+
 same-length : tie.Need-same-length
 same-length c = search needs
 
-returns-2 : tie.Need-returns-2
+returns-3 : tie.Need-returns-3
 unfolding givenRow givenOf
-returns-2 c =
+returns-3 c =
     let a = c .before .before .before .before .before .before .before .before .before .before .before .before .before .args in
     c .before .before .take .ensures
     ∙ row-due (a .intake) (a .words .now) _ (omega (arith, c .before .before .before .before .before .before .before .before .before .before .due .ensures, c .before .before .before .before .before .before .before .before .if1 .left))
-    (ap givenOf (sym (c .before .before .before .before .before .op .given .1)) ∙ c .before .before .before .before .before .before .before .input-line .ensures)
-
-returns-3 : tie.Need-returns-3
-unfolding givenOf
-returns-3 c =
-    let a = c .before .before .before .before .before .before .before .before .before .before .args in
-    ap (λ (i : Intake). gathered i (a .words .now)) (c .refuse-row2 .ensures)
-    ∙ row-faulty (a .intake) (a .words .now) _ (omega (arith, c .before .before .before .before .before .before .before .due .ensures, c .before .before .before .before .before .if1 .left))
-    (ap givenOf (sym (c .before .before .fault .given .1)) ∙ c .before .before .before .before .input-line .ensures)
+    (ap givenOf (sym (c .before .before .before .before .before .read .given .1)) ∙ c .before .before .before .before .before .before .before .input-line .ensures)
 
 pub row-spec : {M : Type 1} → statement M
 row-spec =
@@ -69,10 +74,11 @@ row-spec =
     refuse-row-requires
     returns
     input-line-requires
-    enum-known-op
-    take-requires
-    enum-known-fault
+    enum-known-read
+    enum-told
+    given-fault-requires
     refuse-row-requires-2
-    same-length
     returns-2
+    take-requires
+    same-length
     returns-3)

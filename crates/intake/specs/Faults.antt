@@ -1,0 +1,17 @@
+-- The fault of a line that is refused.
+-- Assumes nothing.
+use Prim.Native.Nat.{ℕ}
+use Rattle.fill_lines.specs.declared.Task.{Task}
+use Rattle.fill_lines.specs.declared.Task.the-variants as task
+use Rattle.fill_lines.specs.declared.Given.{Given}
+use Rattle.fill_lines.specs.declared.Given.the-variants as given
+
+-- 2, 3 or 4 of a value line; 0 of one that is not refused
+unfoldable pub taskFault : Task → ℕ
+taskFault (task.Fill memory size count) = 0
+taskFault (task.Fault fault) = fault
+
+-- 2 or 3 of a row line; 0 of one that reads as a row
+unfoldable pub givenFault : Given → ℕ
+givenFault (given.Row op guard addr value) = 0
+givenFault (given.Fault fault) = fault
