@@ -4,12 +4,11 @@ use Prim.Native.Nat.{ℕ, suc, _≤_}
 use mathlib.Core.Path.{_≡_, refl, ap, _∙_}
 use mathlib.Core.Bool.{Bool, true, false, cond}
 use mathlib.Core.List.{List, []}
-use lib.Dec.{eqb}
 use lib.ListN.{length, getD, drop}
-use borrow.Author.Tests.{eqb-true, eqb-false}
 use Rattle.field.specs.Field.{p}
 use Rattle.memory.specs.Bytes.{Line, fields, numbers, allBelow, named, noFields, readable, fieldsOf}
 use Rattle.fields.specs.declared.Found.{Found}
+use Rattle.fields.specs.declared.Found.the-variants.{Read, Unread}
 use Rattle.keys.specs.declared.Name.{Name}
 use Rattle.keys.specs.Keys.{keyOf, first, nameOf}
 use Rattle.fields.specs.Keyed.{Keyed, keyed, faulty, byKey, foundOf}
@@ -47,15 +46,13 @@ module _ (k : ℕ) (line : Line) where
 
 -- where all the numbers are read, the end of the line decides, and then whether they are below p
 module _ {total : ℕ} {text : List ℕ} {ended : Bool} {ns : List ℕ} {i at : ℕ} {below : Bool} (reading : Reading total text ended ns i at below) (over : total ≤ i) where
-  pub found-all : {name : Name} → name ≡ nameOf (first text)
-      → foundOf ns (record { key = name .key; readable = eqb at (length text); below = below }) ≡ byKey (fieldsOf p (suc total) (record { text = text; ended = ended }))
+  pub found-more : (at ≡ length text → ⊥) → faulty 2 ≡ byKey (fieldsOf p (suc total) (record { text = text; ended = ended }))
+  found-more more = found-malformed total _ (reading-over reading over more)
+
+  pub found-all : {name : Name} → name ≡ nameOf (first text) → at ≡ length text
+      → foundOf ns (Read (name .key) below) ≡ byKey (fieldsOf p (suc total) (record { text = text; ended = ended }))
   unfolding foundOf
-  found-all {name} first-is = by (eqb at (length text)) refl
-    where
-      by : (t : Bool) → eqb at (length text) ≡ t
-          → cond t (cond below (keyed (name .key) ns) (faulty 3)) (faulty 2) ≡ byKey (fieldsOf p (suc total) (record { text = text; ended = ended }))
-      by true ends = found-small total _ below (reading-small reading over) (reading-ends reading over first-is (eqb-true at (length text) ends))
-      by false more = found-malformed total _ (reading-over reading over (eqb-false at (length text) more))
+  found-all first-is ends = found-small total _ below (reading-small reading over) (reading-ends reading over first-is ends)
 
 -- no number of a line that has a key is p or more
 unfoldable belowIn : Keyed → Bool
@@ -76,16 +73,16 @@ keyed-below k line is =
     let ns = numbers (drop 1 fs) in
     ap belowIn is ∙ fields-below (readable k line) (allBelow p ns) (getD fs 0 []) ns refl
 
--- what an answer says, by its two tests
-module _ (ns : List ℕ) (found : Found) {is : Keyed} (says : foundOf ns found ≡ is) where
-  pub says-unreadable : found .readable ≡ false → faulty 2 ≡ is
+-- what an answer says, by its variant and its test
+module _ (ns : List ℕ) {found : Found} {is : Keyed} (says : foundOf ns found ≡ is) where
+  pub says-unread : found ≡ Unread → faulty 2 ≡ is
   unfolding foundOf
-  says-unreadable e = rw e at says
+  says-unread e = rw e at says
 
-  pub says-large : found .readable ≡ true → found .below ≡ false → faulty 3 ≡ is
+  pub says-large : {key : ℕ} {below : Bool} → found ≡ Read key below → below ≡ false → faulty 3 ≡ is
   unfolding foundOf
   says-large e f = rw (e, f) at says
 
-  pub says-key : found .readable ≡ true → found .below ≡ true → keyed (found .key) ns ≡ is
+  pub says-key : {key : ℕ} {below : Bool} → found ≡ Read key below → below ≡ true → keyed key ns ≡ is
   unfolding foundOf
   says-key e f = rw (e, f) at says

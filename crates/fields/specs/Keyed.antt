@@ -5,6 +5,7 @@ use mathlib.Core.Bool.{cond}
 use mathlib.Core.List.{List}
 use Rattle.memory.specs.Bytes.{Fields, named, noFields}
 use Rattle.fields.specs.declared.Found.{Found}
+use Rattle.fields.specs.declared.Found.the-variants.{Read, Unread}
 use Rattle.keys.specs.Keys.{keyOf}
 
 -- What a line of a name and numbers reads as: the key of the name and the numbers, or its fault 2 or 3
@@ -19,4 +20,5 @@ byKey (noFields f) = faulty f
 
 -- what an answer says that a line reads as, with the numbers that it leaves in the slice lent to it: 2 before 3
 unfoldable pub foundOf : List ℕ → Found → Keyed
-foundOf ns found = cond (found .readable) (cond (found .below) (keyed (found .key) ns) (faulty 3)) (faulty 2)
+foundOf ns (Read key below) = cond below (keyed key ns) (faulty 3)
+foundOf ns Unread = faulty 2

@@ -15,12 +15,10 @@ pub const LONGEST: usize = 80;
 // 3: "a number is p or more"
 const P: u64 = Field::MODULUS as u64;
 
-// What a line reads as: the key of its name, its numbers being in the slice that was lent. It meets 2 where it is not readable, and else 3 where its numbers are not
-// all below p.
-pub struct Found {
-    pub key: u64,
-    pub readable: bool,
-    pub below: bool,
+// What a line reads as: the key of its name, and whether its numbers, which are in the slice that was lent, are all below p (3 where they are not); `Unread` is 2.
+pub enum Found {
+    Read { key: u64, below: bool },
+    Unread,
 }
 
 // What a line reads as that is to have a name and as many numbers as are lent, each of its bytes read once.
@@ -28,11 +26,7 @@ pub fn read(text: &[u8], ended: bool, numbers: &mut [u64]) -> Found
     ensures { λ r. ⌜ foundOf (now (numbers .exit)) r ≡ byKey (fieldsOf p (suc (length (now (numbers .entry)))) (record { text = now (text .entry); ended = ended })) ⌝ }
 {
     if LONGEST < text.len() || !ended {
-        return Found {
-            key: 0,
-            readable: false,
-            below: false,
-        };
+        return Found::Unread;
     }
     let name = keys::name_of(text);
     let mut next = name.next;
@@ -40,20 +34,18 @@ pub fn read(text: &[u8], ended: bool, numbers: &mut [u64]) -> Found
     let mut i = 0;
     while i < numbers.len() {
         let Number::Read(value, after) = decimal::number_at(text, next) else {
-            return Found {
-                key: name.key,
-                readable: false, // 2, also where a number before it is p or more
-                below,
-            };
+            return Found::Unread; // 2, also where a number before it is p or more
         };
         below = below & (value < P);
         numbers[i] = value;
         next = after;
         i += 1;
     }
-    Found {
+    if next != text.len() {
+        return Found::Unread;
+    }
+    Found::Read {
         key: name.key,
-        readable: next == text.len(),
         below,
     }
 }

@@ -10,6 +10,7 @@ ghost use Rattle.memory.specs.File.{namesFault};
 ghost use Rattle.memory.specs.FillFile.{fillAllowed, jobOf, parseJob, parseInput};
 ghost use Rattle.keys.specs.Keys.{knownOf};
 ghost use Rattle.fill_lines.specs.Answers.{taskOf, givenOf, inputWith};
+use fields::Found;
 use keys::Known;
 use memory::Memory;
 use memory::Op;
@@ -74,14 +75,13 @@ pub fn job_line(text: &[u8], ended: bool) -> Task
     ensures { λ r. ⌜ taskOf r ≡ parseJob p (record { text = now (text .entry); ended = ended }) ⌝ }
 {
     let mut values = [0u64; 2];
-    let found = fields::read(text, ended, &mut values);
-    if !found.readable {
+    let Found::Read { key, below } = fields::read(text, ended, &mut values) else {
         return Task::Fault(numbers::UNREADABLE);
-    }
-    if !found.below {
+    };
+    if !below {
         return Task::Fault(numbers::TOO_LARGE);
     }
-    task_of(keys::memory_of(found.key), &values)
+    task_of(keys::memory_of(key), &values)
 }
 
 // The row of an op and three numbers.
@@ -102,14 +102,13 @@ pub fn input_line(text: &[u8], ended: bool) -> Given
     ensures { λ r. ⌜ givenOf r ≡ parseInput p (record { text = now (text .entry); ended = ended }) ⌝ }
 {
     let mut columns = [0u64; 3];
-    let found = fields::read(text, ended, &mut columns);
-    if !found.readable {
+    let Found::Read { key, below } = fields::read(text, ended, &mut columns) else {
         return Given::Fault(numbers::UNREADABLE);
-    }
-    if !found.below {
+    };
+    if !below {
         return Given::Fault(numbers::TOO_LARGE);
     }
-    given_row(keys::op_of(found.key), &columns)
+    given_row(keys::op_of(key), &columns)
 }
 
 // The fault of line 1, or 0.

@@ -11,6 +11,7 @@ ghost use Rattle.memory.specs.Rows.{rowWith, parseRow};
 ghost use Rattle.memory.specs.File.{openedBy, parseValues, namesFault};
 ghost use Rattle.keys.specs.Keys.{knownOf};
 ghost use Rattle.lines.specs.Answers.{openingOf};
+use fields::Found;
 use keys::Known;
 use memory::Challenge;
 use memory::Memory;
@@ -66,14 +67,13 @@ pub fn row_line(text: &[u8], ended: bool) -> Parsed
     ensures { λ r. ⌜ r ≡ parseRow p (record { text = now (text .entry); ended = ended }) ⌝ }
 {
     let mut columns = [0u64; 6];
-    let found = fields::read(text, ended, &mut columns);
-    if !found.readable {
+    let Found::Read { key, below } = fields::read(text, ended, &mut columns) else {
         return Parsed::Fault(numbers::UNREADABLE);
-    }
-    if !found.below {
+    };
+    if !below {
         return Parsed::Fault(numbers::TOO_LARGE);
     }
-    Parsed::Sound(row_of(keys::op_of(found.key), &columns))
+    Parsed::Sound(row_of(keys::op_of(key), &columns))
 }
 
 // The values of a value line, or 4, from what its name is that of, and six numbers.
@@ -102,14 +102,13 @@ pub fn value_line(text: &[u8], ended: bool) -> Opened
     ensures { λ r. ⌜ openingOf r ≡ parseValues p (record { text = now (text .entry); ended = ended }) ⌝ }
 {
     let mut values = [0u64; 6];
-    let found = fields::read(text, ended, &mut values);
-    if !found.readable {
+    let Found::Read { key, below } = fields::read(text, ended, &mut values) else {
         return Opened::Shut(numbers::UNREADABLE);
-    }
-    if !found.below {
+    };
+    if !below {
         return Opened::Shut(numbers::TOO_LARGE);
     }
-    opened_by(keys::memory_of(found.key), &values)
+    opened_by(keys::memory_of(key), &values)
 }
 
 // The fault 1 or 2 of a line that is to be these names, or 0.

@@ -9,7 +9,7 @@ use borrow.Author.Tests.{not-true, not-false}
 use Rattle.field.specs.Field.{p}
 use Rattle.fields.specs.Keyed.{foundOf}
 use Rattle.fields.proofs.Fields.{Reading, reading-begins, reading-goes, reading-fails, line-long, line-broken}
-use Rattle.fields.proofs.Parts.{found-malformed, found-all}
+use Rattle.fields.proofs.Parts.{found-malformed, found-more, found-all}
 use Rattle.fields.proofs.read.Statement.{statement}
 use Rattle.fields.proofs.read.Tie as tie
 
@@ -70,10 +70,17 @@ loop-again c =
     reading-goes l (omega arith) (c .before .before .before .number-at .ensures) (c .before .value .given .1)
 
 same-length-2 : tie.Need-same-length-2 Inv-loop μ-loop
-same-length-2 c = c .before .loop .inv .many
+same-length-2 c = c .before .before .loop .inv .many
 
 returns-3 : tie.Need-returns-3 Inv-loop μ-loop
-returns-3 c = found-all (c .before .loop .inv) (omega arith) (c .before .before .name-of .ensures)
+unfolding foundOf
+returns-3 c = found-more (c .before .before .loop .inv) (omega arith) (c .if3 .taken)
+
+same-length-3 : tie.Need-same-length-3 Inv-loop μ-loop
+same-length-3 c = c .before .before .loop .inv .many
+
+returns-4 : tie.Need-returns-4 Inv-loop μ-loop
+returns-4 c = found-all (c .before .before .loop .inv) (omega arith) (c .before .before .before .name-of .ensures) (c .if3 .left)
 
 pub read-spec : {M : Type 1} → statement M
 read-spec =
@@ -95,4 +102,6 @@ read-spec =
     loop-less
     loop-again
     same-length-2
-    returns-3)
+    returns-3
+    same-length-3
+    returns-4)
