@@ -5,8 +5,7 @@ use memory::numbers;
 use rules::counters;
 use rules::due;
 ghost use mathlib.Core.Path.{_≡_};
-ghost use Rattle.memory.specs.Step.{takesRows, refuseNext, refuseLast, accepting};
-ghost use Rattle.answers.specs.Closing.{closed};
+ghost use Rattle.memory.specs.Step.{takesRows, refuseNext, refuseLast, accepting, closed};
 
 // "After a refusal or the end of file a state is fixed".
 pub fn takes_rows(c: Context) -> bool

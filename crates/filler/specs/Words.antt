@@ -31,7 +31,7 @@ inputOf row = record { op = opCoded (row .op); guard = row .guard; addr = row .a
 
 -- input row k
 unfoldable pub inputAt : List ℕ → ℕ → Input
-inputAt inputs k = record { op = opCoded (opAt inputs k); guard = guardAt inputs k; addr = addrAt inputs k; value = valueAt inputs k }
+inputAt inputs k = inputOf (wordsAt inputs k)
 
 -- the words of an output row: "Op, guard, addr and value are copied"
 abbrev pub copied : List ℕ → ℕ → ℕ → ℕ → ℕ → List ℕ

@@ -234,18 +234,16 @@ accepting c = record {
   ended = true;
 }
 
--- the end of file: 7 if rows are missing, then 9, then 10
-unfoldable pub endOf : State → State
-endOf s =
-    let c = s .context in
-    let ps = s .products in
-    cond (takesRows c)
-    (withContext s
-    (cond (ltb (c .passed) (due c)) (refuseNext c 7)
+-- the end of file, where rows were still taken: 7 if rows are missing, then 9, then 10
+abbrev pub closed : Context → Products → Context
+closed c ps =
+    cond (ltb (c .passed) (due c)) (refuseNext c 7)
     (cond (eqb (ps .supplied) (ps .looked))
     (cond (eqb (ps .written) (ps .read) && eqb (ps .enqueued) (ps .dequeued)) (accepting c) (refuseLast c 10))
-    (refuseLast c 9))))
-    s
+    (refuseLast c 9))
+
+unfoldable pub endOf : State → State
+endOf s = cond (takesRows (s .context)) (withContext s (closed (s .context) (s .products))) s
 
 -- what is printed of a state. A state that still takes rows is an incomplete file: 7 on the next line
 unfoldable pub reportOf : State → Report

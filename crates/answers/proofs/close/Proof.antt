@@ -2,7 +2,6 @@
 -- Assumes nothing.
 use borrow.Author.Needs.{needs}
 use borrow.Author.Tests.{lt-ltb, le-ltb, eq-eqb, ne-eqb}
-use Rattle.answers.specs.Closing.{closed}
 use Rattle.answers.proofs.close.Statement.{statement}
 use Rattle.answers.proofs.close.Tie as tie
 
@@ -16,7 +15,6 @@ refuse-next-requires : tie.Need-refuse-next-requires
 refuse-next-requires c κs = search needs
 
 returns : tie.Need-returns
-unfolding closed
 returns c =
     let c1 = c .before in
     simp (c .refuse-next .ensures, lt-ltb _ _ (c1 .if1 .taken), ← c1 .before .total .ensures)
@@ -25,7 +23,6 @@ refuse-last-requires : tie.Need-refuse-last-requires
 refuse-last-requires c κs = search needs
 
 returns-2 : tie.Need-returns-2
-unfolding closed
 returns-2 c =
     let c1 = c .before in
     let c3 = c1 .before .before in
@@ -43,7 +40,6 @@ refuse-last-requires-2 : tie.Need-refuse-last-requires-2
 refuse-last-requires-2 c κs = search needs
 
 returns-3 : tie.Need-returns-3
-unfolding closed
 returns-3 c =
     let c1 = c .before in
     let c4 = c1 .before .before .before in
@@ -57,7 +53,6 @@ returns-3 c =
     )
 
 returns-4 : tie.Need-returns-4
-unfolding closed
 returns-4 c =
     let c1 = c .before in
     let c4 = c1 .before .before .before in

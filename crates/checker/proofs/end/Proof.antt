@@ -3,7 +3,6 @@
 use borrow.Author.Needs.{needs}
 use borrow.Author.Tests.{not-true, not-false}
 use Rattle.memory.specs.Step.{withContext, endOf}
-use Rattle.answers.specs.Closing.{closed}
 use Rattle.checker.proofs.end.Statement.{statement}
 use Rattle.checker.proofs.end.Tie as tie
 
@@ -18,7 +17,7 @@ close-requires : tie.Need-close-requires
 close-requires c κs = search needs
 
 returns-2 : tie.Need-returns-2
-unfolding withContext endOf closed
+unfolding withContext endOf
 returns-2 c =
     let c1 = c .before in
     let c2 = c1 .before in
