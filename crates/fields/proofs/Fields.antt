@@ -22,18 +22,8 @@ use Rattle.keys.specs.Keys.{keyOf, first, nameOf}
 use Rattle.decimal.specs.Numbers.{run, most, numberOf, numberFrom}
 use Rattle.decimal.proofs.Numbers.{run-within}
 use Rattle.keys.proofs.Names.{first-within}
+use Rattle.fields.specs.Keyed.{Taken, taken, unread, lineTaken}
 use Rattle.fields.proofs.Elements.{below-append}
-
--- What a line is taken apart to: the key of its name, and its numbers; nothing where it meets 2
-pub data Taken : Type 0 where
-  taken : ℕ → List ℕ → Taken
-  malformed : Taken
-
--- what a line is taken apart to, where a name and k numbers are due
-unfoldable pub lineTaken : ℕ → Line → Taken
-lineTaken k line =
-    let fs = fields (line .text) in
-    cond (readable (suc k) line) (taken (keyOf (getD fs 0 [])) (numbers (drop 1 fs))) malformed
 
 abbrev isNil : List ℕ → Bool
 isNil [] = true
@@ -285,10 +275,10 @@ prepends-some (v ∷ vs) ws = rw (prepends-some vs ws)
 
 -- the numbers that are read after the name, with its key
 unfoldable takenWith : ℕ → Option (List ℕ) → Taken
-takenWith key none = malformed
-takenWith key (some ns) = taken key ns
+takenWith key none = unread
+takenWith key (some ns) = taken key ns (allBelow p ns)
 
-taken-cond : (test : Bool) (key : ℕ) (ns : List ℕ) → cond test (taken key ns) malformed ≡ takenWith key (cond test (some ns) none)
+taken-cond : (test : Bool) (key : ℕ) (ns : List ℕ) → cond test (taken key ns (allBelow p ns)) unread ≡ takenWith key (cond test (some ns) none)
 unfolding takenWith
 taken-cond true key ns = refl
 taken-cond false key ns = refl
@@ -297,7 +287,7 @@ taken-cond false key ns = refl
 line-is :
     (total : ℕ) (text : List ℕ) (ended : Bool) (read : Option (List ℕ))
     → length text ≤ 80 → ended ≡ true → readFrom total text (length (first text)) ≡ read
-    → takenWith (keyOf (first text)) read ≡ lineTaken total (record { text = text; ended = ended })
+    → takenWith (keyOf (first text)) read ≡ lineTaken p total (record { text = text; ended = ended })
 unfolding lineTaken readable fitting longest numbersOf
 line-is total text ended read fits is reads =
     rw (
@@ -360,7 +350,7 @@ module _ {total : ℕ} {text : List ℕ} {ended : Bool} {ns : List ℕ} {i at : 
         }
 
     -- or is none
-    pub reading-fails : found ≡ Unread → malformed ≡ lineTaken total (record { text = text; ended = ended })
+    pub reading-fails : found ≡ Unread → unread ≡ lineTaken p total (record { text = text; ended = ended })
     unfolding readFrom readOn takenWith
     reading-fails fails =
         line-is total text ended none (reading .fits) (reading .whole)
@@ -376,18 +366,19 @@ module _ {total : ℕ} {text : List ℕ} {ended : Bool} {ns : List ℕ} {i at : 
       ∙ ap (λ (vs : List ℕ). prepends vs (readFrom 0 text at)) (take-all i ns (omega arith))
 
   -- of all of them, whether one is p or more
-  pub reading-small : total ≤ i → below ≡ allBelow p ns
+  reading-small : total ≤ i → below ≡ allBelow p ns
   reading-small over = reading .small ∙ ap (allBelow p) (take-all i ns (omega arith))
 
   -- and the last number ends the line, or does not
-  pub reading-ends : total ≤ i → {name : Name} → name ≡ nameOf (first text) → at ≡ length text → taken (name .key) ns ≡ lineTaken total (record { text = text; ended = ended })
+  pub reading-ends : total ≤ i → {name : Name} → name ≡ nameOf (first text) → at ≡ length text → taken (name .key) ns below ≡ lineTaken p total (record { text = text; ended = ended })
   unfolding readFrom takenWith nameOf
   reading-ends over named ends =
-      ap (λ (n : Name). taken (n .key) ns) named
+      ap (λ (n : Name). taken (n .key) ns below) named
+      ∙ ap (taken (nameOf (first text) .key) ns) (reading-small over)
       ∙ line-is total text ended (some ns) (reading .fits) (reading .whole)
       (reading-last over ∙ rw (eq-eqb at (length text) ends) (prepends-some ns [] ∙ ap some (append-nil ns)))
 
-  pub reading-over : total ≤ i → (at ≡ length text → ⊥) → malformed ≡ lineTaken total (record { text = text; ended = ended })
+  pub reading-over : total ≤ i → (at ≡ length text → ⊥) → unread ≡ lineTaken p total (record { text = text; ended = ended })
   unfolding readFrom takenWith
   reading-over over more =
       line-is total text ended none (reading .fits) (reading .whole)
@@ -395,10 +386,10 @@ module _ {total : ℕ} {text : List ℕ} {ended : Bool} {ns : List ℕ} {i at : 
 
 -- a line that does not fit is taken apart to none
 module _ (total : ℕ) (text : List ℕ) (ended : Bool) where
-  pub line-long : 80 < length text → malformed ≡ lineTaken total (record { text = text; ended = ended })
+  pub line-long : 80 < length text → unread ≡ lineTaken p total (record { text = text; ended = ended })
   unfolding lineTaken readable fitting longest
   line-long long = rw (lt-leb (length text) 80 long)
 
-  pub line-broken : ended ≡ false → malformed ≡ lineTaken total (record { text = text; ended = ended })
+  pub line-broken : ended ≡ false → unread ≡ lineTaken p total (record { text = text; ended = ended })
   unfolding lineTaken readable fitting longest
   line-broken is = rw (is, and-false)

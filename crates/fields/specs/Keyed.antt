@@ -1,24 +1,27 @@
--- What a line reads as, with the key of its name in the place of the name.
+-- What a line of a name and numbers is taken apart to, with the key of the name in its place: 2 and 3 of section "The numbers" of document 01.
 -- Assumes nothing.
-use Prim.Native.Nat.{ℕ}
-use mathlib.Core.Bool.{cond}
-use mathlib.Core.List.{List}
-use Rattle.memory.specs.Bytes.{Fields, named, noFields}
+use Prim.Native.Nat.{ℕ, suc}
+use mathlib.Core.Bool.{Bool, cond}
+use mathlib.Core.List.{List, []}
+use lib.ListN.{getD, drop}
+use Rattle.memory.specs.Bytes.{Line, fields, numbers, allBelow, readable}
+use Rattle.keys.specs.Keys.{keyOf}
 use Rattle.fields.specs.declared.Found.{Found}
 use Rattle.fields.specs.declared.Found.the-variants.{Read, Unread}
-use Rattle.keys.specs.Keys.{keyOf}
 
--- What a line of a name and numbers reads as: the key of the name and the numbers, or its fault 2 or 3
-pub data Keyed : Type 0 where
-  keyed : ℕ → List ℕ → Keyed
-  faulty : ℕ → Keyed
+-- the key of the name, the numbers, and whether all of them are below q (3 where they are not); unread where the line meets 2
+pub data Taken : Type 0 where
+  taken : ℕ → List ℕ → Bool → Taken
+  unread : Taken
 
--- the fields of a line, with the key of the name
-unfoldable pub byKey : Fields → Keyed
-byKey (named name ns) = keyed (keyOf name) ns
-byKey (noFields f) = faulty f
+-- what a line is taken apart to that is to have a name and k numbers
+unfoldable pub lineTaken : ℕ → ℕ → Line → Taken
+lineTaken q k line =
+    let fs = fields (line .text) in
+    let ns = numbers (drop 1 fs) in
+    cond (readable (suc k) line) (taken (keyOf (getD fs 0 [])) ns (allBelow q ns)) unread
 
--- what an answer says that a line reads as, with the numbers that it leaves in the slice lent to it: 2 before 3
-unfoldable pub foundOf : List ℕ → Found → Keyed
-foundOf ns (Read key below) = cond below (keyed key ns) (faulty 3)
-foundOf ns Unread = faulty 2
+-- what an answer says, with the numbers that it leaves in the slice lent to it; where it says that the line meets 2, those are free
+unfoldable pub takenOf : List ℕ → Found → Taken
+takenOf ns (Read key below) = taken key ns below
+takenOf ns Unread = unread

@@ -1,11 +1,9 @@
 // A line to its fields: a name, told by its key, and numbers. Section "The file" of document 01, and 2 and 3 of section "The numbers".
 // `read` takes the bytes of a line before its line feed, and whether the line feed is there. Every slice is read, whatever it holds.
 ghost use mathlib.Core.Path.{_≡_};
-ghost use Prim.Native.Nat.{suc};
 ghost use lib.ListN.{length};
 ghost use Rattle.field.specs.Field.{p};
-ghost use Rattle.memory.specs.Bytes.{fieldsOf};
-ghost use Rattle.fields.specs.Keyed.{byKey, foundOf};
+ghost use Rattle.fields.specs.Keyed.{takenOf, lineTaken};
 use decimal::Number;
 use field::Field;
 
@@ -15,15 +13,16 @@ pub const LONGEST: usize = 80;
 // 3: "a number is p or more"
 const P: u64 = Field::MODULUS as u64;
 
-// What a line reads as: the key of its name, and whether its numbers, which are in the slice that was lent, are all below p (3 where they are not); `Unread` is 2.
+// What a line reads as: the key of its name, and whether its numbers, which are in the slice that was lent, are all below p (3 where they are not). `Unread` is 2;
+// which numbers the slice then holds is free.
 pub enum Found {
     Read { key: u64, below: bool },
     Unread,
 }
 
-// What a line reads as that is to have a name and as many numbers as are lent, each of its bytes read once.
+// What a line reads as that is to have a name and as many numbers as are lent.
 pub fn read(text: &[u8], ended: bool, numbers: &mut [u64]) -> Found
-    ensures { λ r. ⌜ foundOf (now (numbers .exit)) r ≡ byKey (fieldsOf p (suc (length (now (numbers .entry)))) (record { text = now (text .entry); ended = ended })) ⌝ }
+    ensures { λ r. ⌜ takenOf (now (numbers .exit)) r ≡ lineTaken p (length (now (numbers .entry))) (record { text = now (text .entry); ended = ended }) ⌝ }
 {
     if LONGEST < text.len() || !ended {
         return Found::Unread;

@@ -68,7 +68,7 @@ pub fn advance(progress: Progress, buf: &mut [u8], filled: usize, words: &mut [u
 }
 
 // The end of input, with the kept bytes at the front of the buffer: what the program prints goes into the text. Free is what is printed where the
-// caller lends less than `fill` does: the library's 7, 14 or 15 on line 3, for too few words, too little output or too little scratch.
+// caller lends less than `fill` does: the library's 7, 14 or 15 on line 3, for too few words, too little output or too little scratch; and its 4, for a size or count that no value line has.
 pub fn finish(
     progress: Progress,
     buf: &[u8],

@@ -17,7 +17,7 @@ use Rattle.memory.specs.Names.{opNamed, memoryNamed}
 use Rattle.memory.specs.Rows.{rowFields, rowWith, rowRead, parseRow}
 use Rattle.memory.specs.File.{shut, valueFields, openedBy, valuesRead, parseValues}
 use Rattle.keys.specs.Keys.{keyOf, first, opKeyed, memoryKeyed}
-use Rattle.fields.specs.Keyed.{Keyed, keyed, faulty, byKey}
+use Rattle.fields.proofs.Parts.{Keyed, keyed, faulty, byKey}
 use Rattle.fields.proofs.Fields.{fields-first}
 use Rattle.fields.proofs.Elements.{number-fits}
 use Rattle.keys.proofs.Keys.{Bytes, op-keyed, memory-keyed}

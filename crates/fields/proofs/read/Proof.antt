@@ -7,9 +7,8 @@ use lib.ListN.{length, length-set}
 use borrow.Author.Needs.{needs}
 use borrow.Author.Tests.{not-true, not-false}
 use Rattle.field.specs.Field.{p}
-use Rattle.fields.specs.Keyed.{foundOf}
-use Rattle.fields.proofs.Fields.{Reading, reading-begins, reading-goes, reading-fails, line-long, line-broken}
-use Rattle.fields.proofs.Parts.{found-malformed, found-more, found-all}
+use Rattle.fields.specs.Keyed.{takenOf}
+use Rattle.fields.proofs.Fields.{Reading, reading-begins, reading-goes, reading-fails, reading-ends, reading-over, line-long, line-broken}
 use Rattle.fields.proofs.read.Statement.{statement}
 use Rattle.fields.proofs.read.Tie as tie
 
@@ -20,11 +19,11 @@ abbrev μ-loop : tie.MeasureT-loop
 μ-loop text ended numbers₀ name next₀ below₀ i₀ numbers next below i = length numbers - i
 
 returns : tie.Need-returns Inv-loop μ-loop
-unfolding foundOf
+unfolding takenOf
 returns c =
     ⊎-elim
-    (λ w. found-malformed _ _ (line-long _ _ _ (w .taken)))
-    (λ w. found-malformed _ _ (line-broken _ _ _ (not-true _ (w .1 .taken))))
+    (λ w. line-long _ _ _ (w .taken))
+    (λ w. line-broken _ _ _ (not-true _ (w .1 .taken)))
     (c .if1 .came)
 
 name-of-requires : tie.Need-name-of-requires Inv-loop μ-loop
@@ -46,10 +45,10 @@ same-length : tie.Need-same-length Inv-loop μ-loop
 same-length c = c .before .before .before .before .loop .inv .many
 
 returns-2 : tie.Need-returns-2 Inv-loop μ-loop
-unfolding foundOf
+unfolding takenOf
 returns-2 c =
     let l = c .before .before .before .before .loop .inv in
-    found-malformed _ _ (reading-fails l (omega arith) (c .before .before .number-at .ensures) (c .enum-told .given .1))
+    reading-fails l (omega arith) (c .before .before .number-at .ensures) (c .enum-told .given .1)
 
 mul-numbers : tie.Need-mul-numbers Inv-loop μ-loop
 mul-numbers c = search needs
@@ -73,14 +72,15 @@ same-length-2 : tie.Need-same-length-2 Inv-loop μ-loop
 same-length-2 c = c .before .before .loop .inv .many
 
 returns-3 : tie.Need-returns-3 Inv-loop μ-loop
-unfolding foundOf
-returns-3 c = found-more (c .before .before .loop .inv) (omega arith) (c .if3 .taken)
+unfolding takenOf
+returns-3 c = reading-over (c .before .before .loop .inv) (omega arith) (c .if3 .taken)
 
 same-length-3 : tie.Need-same-length-3 Inv-loop μ-loop
 same-length-3 c = c .before .before .loop .inv .many
 
 returns-4 : tie.Need-returns-4 Inv-loop μ-loop
-returns-4 c = found-all (c .before .before .loop .inv) (omega arith) (c .before .before .before .name-of .ensures) (c .if3 .left)
+unfolding takenOf
+returns-4 c = reading-ends (c .before .before .loop .inv) (omega arith) (c .before .before .before .name-of .ensures) (c .if3 .left)
 
 pub read-spec : {M : Type 1} → statement M
 read-spec =
