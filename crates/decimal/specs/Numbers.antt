@@ -5,7 +5,7 @@ use mathlib.Core.Bool.{cond}
 use mathlib.Core.List.{List, [], _∷_}
 use lib.Dec.{eqb}
 use lib.ListN.{length}
-use Rattle.memory.specs.Bytes.{comma, digit, decimalFrom, numeral}
+use Rattle.memory.specs.Bytes.{mostDigits, comma, digit, decimalFrom, numeral}
 use Rattle.decimal.specs.declared.Run.{Run}
 use Rattle.decimal.specs.declared.Number.{Number}
 use Rattle.decimal.specs.declared.Number.the-variants.{Read, Unread}
@@ -22,7 +22,7 @@ digitsOf value from ds = record { value = decimalFrom value ds; next = from + le
 
 -- 2: "over 10 digits"
 unfoldable pub most : ℕ
-most = 10
+most = mostDigits
 
 -- the number that a run of digits is, and the position after it
 unfoldable pub numberOf : ℕ → List ℕ → Number

@@ -1,4 +1,4 @@
-// The products and hashes after a row: section "The equations" of document 01, one function for each op. Those that read and write nothing are in module reads.
+// The products and hashes after a row: section "The equations" of document 01, one function for each op. Those of rows that write no record of the memory are in module reads.
 use field::Field;
 use memory::Challenge;
 use memory::Context;

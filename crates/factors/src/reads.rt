@@ -1,4 +1,4 @@
-// The products and hashes after a row that reads and writes nothing: a pop, a dequeue, an end row, a range row.
+// The products and hashes after a row that writes no record of the memory: a pop, a dequeue, an end row, a range row.
 use field::Field;
 use memory::Challenge;
 use memory::Context;

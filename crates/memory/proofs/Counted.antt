@@ -9,12 +9,13 @@ use mathlib.Core.List.{List, [], _∷_, _++_}
 use lib.ListN.{length, length-append}
 use Rattle.algebra.specs.Modulo.{times}
 use Rattle.algebra.proofs.Modulo.{same-refl, same-mod, times-same}
+use Rattle.algebra.specs.Sum.{bit}
 use Rattle.memory.specs.declared.Memory.{Memory}
 use Rattle.memory.specs.declared.Memory.the-variants.{Ram, Rom, Set, Stack, Queue}
 use Rattle.memory.specs.declared.Op.{Op}
 use Rattle.memory.specs.declared.Op.the-variants.{Init, Access, Look, Member, Push, Pop, Enqueue, Dequeue, End, Range, Other}
 use Rattle.memory.specs.declared.Row.{Row}
-use Rattle.memory.specs.Rows.{raiseBy, lowerBy, raised, lowered, depthFactor, depthProduct}
+use Rattle.memory.specs.Rows.{raiseBy, lowerBy, raised, lowered, depthFactor, depthProduct, columns, used}
 use Rattle.memory.specs.Gates.{rowInputs, rowMults, costs, rowCosts, inputsOf, multsOf}
 
 -- one more row at the end of a list
@@ -80,7 +81,7 @@ depth-snoc q up down (x ∷ rows) row =
 
 -- a row brings at most 3 inputs and 5 multiplications
 row-bound : (m : Memory) (o : Op) → (rowInputs m o ≤ 3) × (rowMults m o ≤ 5)
-unfolding rowInputs rowMults rowCosts costs
+unfolding rowInputs used columns bit rowMults rowCosts costs
 row-bound m Init = omega arith
 row-bound m Access = omega arith
 row-bound m Look = omega arith

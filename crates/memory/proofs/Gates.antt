@@ -8,6 +8,7 @@ use mathlib.Core.List.{List, [], _∷_, _++_}
 use lib.Dec.{leb}
 use lib.ListN.{length}
 use borrow.Author.Tests.{eqb-true}
+use Rattle.algebra.specs.Sum.{bit}
 use Rattle.memory.specs.declared.Memory.{Memory}
 use Rattle.memory.specs.declared.Memory.the-variants.{Ram, Rom, Set, Stack, Queue}
 use Rattle.memory.specs.declared.Op.{Op}
@@ -16,7 +17,7 @@ use Rattle.memory.specs.declared.Phase.{Phase}
 use Rattle.memory.specs.declared.Phase.the-variants.{Starting, Operating, Ending, Ranging}
 use Rattle.memory.specs.declared.Row.{Row}
 use Rattle.memory.specs.Names.{opCode, isOp}
-use Rattle.memory.specs.Rows.{limit, sized, allowed, raised, lowered, endsDue, rangesDue, opsDue, opIn}
+use Rattle.memory.specs.Rows.{limit, sized, allowed, raised, lowered, endsDue, rangesDue, opsDue, opIn, columns, used}
 use Rattle.memory.specs.Gates.{rowInputs, rowMults, costs, rowCosts, inputsOf, multsOf, rowsWith, puts, takes, inputsFormula, multsFormula}
 use Rattle.memory.specs.Bound.{rowsIn}
 use Rattle.memory.specs.Statements.{GatesByFormula}
@@ -146,7 +147,7 @@ ByFormula m n t rows =
 
 -- | ram | 4T + 2n | 6T + 2n |
 ram-gates : (q n t : ℕ) (rows : List Row) → Parts q Ram n t rows → ByFormula Ram n t rows
-unfolding inputsFormula multsFormula rowInputs rowMults rowCosts costs endsDue rangesDue opsDue
+unfolding inputsFormula multsFormula rowInputs used columns bit rowMults rowCosts costs endsDue rangesDue opsDue
 ram-gates q n t rows p = (
   omega (arith, tally-inputs Ram rows, parts-only (rowInputs Ram) q Ram n t Access rows p refl, p .depth),
   omega (arith, tally-mults Ram rows, parts-only (rowMults Ram) q Ram n t Access rows p refl, p .depth),
@@ -154,7 +155,7 @@ ram-gates q n t rows p = (
 
 -- | rom | 2T + n | 2T + 2n |
 rom-gates : (q n t : ℕ) (rows : List Row) → Parts q Rom n t rows → ByFormula Rom n t rows
-unfolding inputsFormula multsFormula rowInputs rowMults rowCosts costs endsDue rangesDue opsDue
+unfolding inputsFormula multsFormula rowInputs used columns bit rowMults rowCosts costs endsDue rangesDue opsDue
 rom-gates q n t rows p = (
   omega (arith, tally-inputs Rom rows, parts-only (rowInputs Rom) q Rom n t Look rows p refl, p .depth),
   omega (arith, tally-mults Rom rows, parts-only (rowMults Rom) q Rom n t Look rows p refl, p .depth),
@@ -162,7 +163,7 @@ rom-gates q n t rows p = (
 
 -- | set | T + n | 2T + 2n |
 set-gates : (q n t : ℕ) (rows : List Row) → Parts q Set n t rows → ByFormula Set n t rows
-unfolding inputsFormula multsFormula rowInputs rowMults rowCosts costs endsDue rangesDue opsDue
+unfolding inputsFormula multsFormula rowInputs used columns bit rowMults rowCosts costs endsDue rangesDue opsDue
 set-gates q n t rows p = (
   omega (arith, tally-inputs Set rows, parts-only (rowInputs Set) q Set n t Member rows p refl, p .depth),
   omega (arith, tally-mults Set rows, parts-only (rowMults Set) q Set n t Member rows p refl, p .depth),
@@ -207,7 +208,7 @@ queue-moves q n t rows p = record {
 
 -- | stack | 3Q + T + 2D | 2P + 4Q + T + D |
 stack-gates : (q n t : ℕ) (rows : List Row) → n ≡ 0 → Parts q Stack n t rows → ByFormula Stack n t rows
-unfolding inputsFormula multsFormula rowInputs rowMults rowCosts costs
+unfolding inputsFormula multsFormula rowInputs used columns bit rowMults rowCosts costs
 stack-gates q n t rows none p =
     let moves = stack-moves q n t rows p in (
       omega (arith, tally-inputs Stack rows, stack-tally (rowInputs Stack) q n t rows p, moves .added, moves .removed, moves .every, moves .depth),
@@ -216,7 +217,7 @@ stack-gates q n t rows none p =
 
 -- | queue | Q + D | 2P + 3Q + D |
 queue-gates : (q n t : ℕ) (rows : List Row) → n ≡ 0 → Parts q Queue n t rows → ByFormula Queue n t rows
-unfolding inputsFormula multsFormula rowInputs rowMults rowCosts costs
+unfolding inputsFormula multsFormula rowInputs used columns bit rowMults rowCosts costs
 queue-gates q n t rows none p =
     let moves = queue-moves q n t rows p in (
       omega (arith, tally-inputs Queue rows, queue-tally (rowInputs Queue) q n t rows p, moves .added, moves .removed, moves .depth),

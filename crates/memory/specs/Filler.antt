@@ -19,7 +19,7 @@ use Rattle.memory.specs.Rows.{allowed, opsDue, opIn, formed}
 use Rattle.memory.specs.Plain.{start, after}
 use Rattle.memory.specs.Honest.{Input, bare, filledRows, impossible, inputOperation}
 
--- the memory that a number stands for
+-- the number of a memory, and the memory that a number stands for
 unfoldable pub memoryCode : Memory → ℕ
 memoryCode Ram = 0
 memoryCode Rom = 1

@@ -4,6 +4,7 @@ use Prim.Native.Nat.{ℕ, _+_, _*_}
 use mathlib.Core.Bool.{_&&_, cond}
 use mathlib.Core.List.{List, [], _∷_}
 use lib.Dec.{eqb}
+use Rattle.algebra.specs.Sum.{bit}
 use Rattle.memory.specs.declared.Memory.{Memory}
 use Rattle.memory.specs.declared.Memory.the-variants.{Ram, Rom, Set, Stack, Queue}
 use Rattle.memory.specs.declared.Op.{Op}
@@ -12,23 +13,11 @@ use Rattle.memory.specs.declared.Row.{Row}
 use Rattle.memory.specs.Names.{isOp}
 use Rattle.memory.specs.Rows.{used}
 
--- the inputs of a row: the advice that it brings. "Restated values are not inputs."
+-- the inputs of a row: how many of the columns old, time and version it uses. "Restated values are not inputs."
 unfoldable pub rowInputs : Memory → Op → ℕ
-rowInputs m Init = 0
-rowInputs m Access = 3
-rowInputs m Look = 2
-rowInputs m Member = 1
-rowInputs m Push = 0
-rowInputs m Pop = 3
-rowInputs m Enqueue = 0
-rowInputs m Dequeue = 1
-rowInputs Ram End = 2
-rowInputs Rom End = 1
-rowInputs Set End = 1
-rowInputs Stack End = 2
-rowInputs Queue End = 1
-rowInputs m Range = 1
-rowInputs m Other = 0
+rowInputs m op =
+    let u = used m op in
+    bit (u .old) + bit (u .time) + bit (u .version)
 
 -- what a row's multiplications are for: "Every factor costs one multiplication, except the range's public setup, which is free. So does each
 -- choice by a guard, each hash step and each depth step."

@@ -25,8 +25,8 @@ use Rattle.memory.specs.FillStream.{lineTaken, unfilled, fillEnd}
 use Rattle.memory.specs.Stream.{lineOf, unread, finishOf}
 use Rattle.memory.specs.Bound.{elements, accepts, rowsIn}
 
--- "Rows then come one call at a time, refused ones included, and last the end of file": the value line's fresh state, advanced by any list of what lines can
--- read as and then ended, answers what the whole-file definition says: answer, line, inputs, multiplications. (Fold: fold-is-file)
+-- "Rows then come one call at a time, refused ones included, and last the end of file": the value line's fresh state, advanced by any list of parsed rows, also
+-- of such as no line reads as, and then ended, answers what the whole-file definition says: answer, line, inputs, multiplications. (Fold: fold-is-file)
 abbrev pub FoldIsFile : Type 0
 FoldIsFile =
     (q : ℕ) (m : Memory) (n t : ℕ) (ch : Challenge) (xs : List Parsed) → 2 ≤ q

@@ -3,7 +3,7 @@ use field::Field;
 ghost use mathlib.Core.Path.{_≡_};
 ghost use Rattle.field.specs.Field.{subOf};
 
-// "looks up clock − time", modulo p: the age of a time that is not before the clock is no small number.
+// "looks up clock − time", modulo p: a time from the clock up to T has the age 0 or an age above T.
 pub fn age(clock: u32, time: u32) -> u32
     ensures { λ r. ⌜ r ≡ subOf clock time ⌝ }
 {

@@ -1,6 +1,8 @@
 -- `gates::inputs` meets its contract: in each arm the variant is known, and the definition computes.
 -- Assumes nothing.
 use borrow.Author.Needs.{needs}
+use Rattle.algebra.specs.Sum.{bit}
+use Rattle.memory.specs.Rows.{used, columns}
 use Rattle.memory.specs.Gates.{rowInputs}
 use Rattle.gates.proofs.inputs.Statement.{statement}
 use Rattle.gates.proofs.inputs.Tie as tie
@@ -54,64 +56,64 @@ enum-told-16 : tie.Need-enum-told-16
 enum-told-16 c = search needs
 
 returns : tie.Need-returns
-unfolding rowInputs
-returns c = search needs
+unfolding rowInputs used columns bit
+returns c = simp (c .enum-told .given .1)
 
 returns-2 : tie.Need-returns-2
-unfolding rowInputs
-returns-2 c = search needs
+unfolding rowInputs used columns bit
+returns-2 c = simp (c .enum-told2 .given .1)
 
 returns-3 : tie.Need-returns-3
-unfolding rowInputs
-returns-3 c = search needs
+unfolding rowInputs used columns bit
+returns-3 c = simp (c .enum-told3 .given .1)
 
 returns-4 : tie.Need-returns-4
-unfolding rowInputs
-returns-4 c = search needs
+unfolding rowInputs used columns bit
+returns-4 c = simp (c .enum-told4 .given .1)
 
 returns-5 : tie.Need-returns-5
-unfolding rowInputs
-returns-5 c = search needs
+unfolding rowInputs used columns bit
+returns-5 c = simp (c .enum-told5 .given .1)
 
 returns-6 : tie.Need-returns-6
-unfolding rowInputs
-returns-6 c = search needs
+unfolding rowInputs used columns bit
+returns-6 c = simp (c .enum-told6 .given .1)
 
 returns-7 : tie.Need-returns-7
-unfolding rowInputs
-returns-7 c = search needs
+unfolding rowInputs used columns bit
+returns-7 c = simp (c .enum-told7 .given .1)
 
 returns-8 : tie.Need-returns-8
-unfolding rowInputs
-returns-8 c = search needs
+unfolding rowInputs used columns bit
+returns-8 c = simp (c .enum-told8 .given .1)
 
 returns-9 : tie.Need-returns-9
-unfolding rowInputs
-returns-9 c = search needs
+unfolding rowInputs used columns bit
+returns-9 c = simp (c .enum-told10 .given .1, c .before .before .enum-told9 .given .1)
 
 returns-10 : tie.Need-returns-10
-unfolding rowInputs
-returns-10 c = search needs
+unfolding rowInputs used columns bit
+returns-10 c = simp (c .enum-told11 .given .1, c .before .before .enum-told9 .given .1)
 
 returns-11 : tie.Need-returns-11
-unfolding rowInputs
-returns-11 c = search needs
+unfolding rowInputs used columns bit
+returns-11 c = simp (c .enum-told12 .given .1, c .before .before .enum-told9 .given .1)
 
 returns-12 : tie.Need-returns-12
-unfolding rowInputs
-returns-12 c = search needs
+unfolding rowInputs used columns bit
+returns-12 c = simp (c .enum-told13 .given .1, c .before .before .enum-told9 .given .1)
 
 returns-13 : tie.Need-returns-13
-unfolding rowInputs
-returns-13 c = search needs
+unfolding rowInputs used columns bit
+returns-13 c = simp (c .enum-told14 .given .1, c .before .before .enum-told9 .given .1)
 
 returns-14 : tie.Need-returns-14
-unfolding rowInputs
-returns-14 c = search needs
+unfolding rowInputs used columns bit
+returns-14 c = simp (c .enum-told15 .given .1)
 
 returns-15 : tie.Need-returns-15
-unfolding rowInputs
-returns-15 c = search needs
+unfolding rowInputs used columns bit
+returns-15 c = simp (c .enum-told16 .given .1)
 
 pub inputs-spec : {M : Type 1} → statement M
 inputs-spec =
