@@ -3,7 +3,6 @@ use memory::Context;
 use memory::Products;
 use memory::numbers;
 use rules::counters;
-use rules::due;
 ghost use mathlib.Core.Path.{_≡_};
 ghost use Rattle.memory.specs.Step.{takesRows, refuseNext, refuseLast, accepting, closed};
 

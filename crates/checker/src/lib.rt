@@ -8,7 +8,6 @@ use memory::Report;
 use memory::State;
 use memory::numbers;
 use rules::counters;
-use rules::due;
 
 mod state;
 

@@ -17,12 +17,14 @@ use Rattle.memory.specs.declared.Phase.the-variants.{Starting, Operating}
 use Rattle.memory.specs.declared.Row.{Row}
 use Rattle.memory.specs.Bytes.{allBelow}
 use Rattle.memory.specs.Rows.{allowed, opsDue, opIn, formed}
-use Rattle.memory.specs.Plain.{start, after}
-use Rattle.memory.specs.Honest.{Input, inputOf, bare, filledRows, impossible, inputOperation, possible}
-use Rattle.memory.specs.Filler.{memoryCode, opCoded, inputNumbers, rowNumbers, room, inputFault, operationFault, Placed, placed, operationsFault, rowsFault, Filling, turnedAway, filledWith, rowRefused, fillRows, fillMemory, fillOf}
-use Rattle.memory.specs.Bound.{fillingFor, Advised}
+use Rattle.runs.specs.Plain.{start, after}
+use Rattle.runs.specs.Honest.{Input, inputOf, bare, filledRows, impossible, inputOperation, possible}
+use Rattle.memory.specs.Names.{opCoded}
+use Rattle.runs.specs.Filler.{memoryCode, inputNumbers, rowNumbers, room, inputFault, operationFault, Placed, placed, operationsFault, rowsFault, Filling, turnedAway, filledWith, rowRefused, fillRows, fillMemory, fillOf}
+use Rattle.runs.specs.Advised.{fillingFor, Advised}
 use Rattle.memory.proofs.ReadRows.{both-pass, chosen-zero}
-use Rattle.memory.proofs.FillerRows.{memory-coded, op-coded, inputs-coded, input-numbers-length}
+use Rattle.runs.proofs.FillerRows.{memory-coded, inputs-coded, input-numbers-length}
+use Rattle.memory.proofs.Operations.{op-coded}
 
 -- the numbers of output rows stand for them
 rowsCoded : List ℕ → List Row

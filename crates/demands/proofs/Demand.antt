@@ -19,8 +19,9 @@ use Rattle.memory.specs.declared.Challenge.{Challenge}
 use Rattle.memory.specs.Bytes.{Line, allBelow}
 use Rattle.memory.specs.Rows.{limit, sized, allowed}
 use Rattle.memory.specs.File.{firstFault, parseRows, valuesFault}
-use Rattle.memory.specs.Plain.{right}
-use Rattle.memory.specs.Bound.{accepts, challenges, malformed, degree, rowsIn, traceIn}
+use Rattle.runs.specs.Plain.{right}
+use Rattle.memory.specs.Bound.{accepts, challenges, malformed, degree, rowsIn}
+use Rattle.runs.specs.Advised.{traceIn}
 use Rattle.memory.specs.Statements.{Holds}
 use Rattle.demands.specs.Statements.{Demand, DemandAt, DemandThree}
 use Rattle.demands.proofs.Balance.{challenges-none}

@@ -18,15 +18,15 @@ use Rattle.memory.specs.declared.Row.{Row}
 use Rattle.memory.specs.Bytes.{allBelow}
 use Rattle.memory.specs.Names.{opCode, isOp}
 use Rattle.memory.specs.Rows.{opsDue, opIn, rowBelow}
-use Rattle.memory.specs.Plain.{among}
-use Rattle.memory.specs.Honest.{Input, filledRow, bare, endRow, rangeRow, occurrences, rangeRowsFrom, Cell, cell, cellAt, ramAge, ramRow, ramCells, ramEnds, ramFrom, romEndsFrom, romFrom, setEndsFrom, setFrom, topCell, stackEnds, popTime, popRow, stackFrom, queueFrom, operationsFilled, filledRows}
+use Rattle.runs.specs.Plain.{among}
+use Rattle.runs.specs.Honest.{Input, filledRow, bare, endRow, rangeRow, occurrences, rangeRowsFrom, Cell, cell, cellAt, ramAge, ramRow, ramCells, ramEnds, ramFrom, romEndsFrom, romFrom, setEndsFrom, setFrom, topCell, stackEnds, popTime, popRow, stackFrom, queueFrom, operationsFilled, filledRows}
 use Rattle.memory.proofs.ReadFields.{decided}
 use Rattle.memory.proofs.ReadRows.{both-pass, RowsBelow, row-below}
 use Rattle.memory.proofs.Operations.{not-among, other-not-due}
 use Rattle.memory.proofs.Phases.{formed-guard}
-use Rattle.memory.proofs.Lengths.{columnsOf}
+use Rattle.runs.proofs.Lengths.{columnsOf}
 use Rattle.demands.proofs.RoundTrip.{Printable, AllPrintable}
-use Rattle.memory.proofs.HonestLookups.{All, occurs-at-most}
+use Rattle.runs.proofs.HonestLookups.{All, occurs-at-most}
 use Rattle.demands.proofs.Advice.{DueInput, DueInputs, valuesOf, Unrefused}
 
 -- What holds of both choices holds of the chosen one.

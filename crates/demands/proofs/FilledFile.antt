@@ -19,15 +19,15 @@ use Rattle.memory.specs.Bytes.{Line, same, allBelow, linesOf}
 use Rattle.memory.specs.Names.{fillNames, inputNames, memoryNamed}
 use Rattle.memory.specs.Rows.{allowed, opsDue, opIn, formed}
 use Rattle.memory.specs.File.{Refusal, refusal, namesFault, fileReport}
-use Rattle.memory.specs.Honest.{Input, bare, filledRows}
-use Rattle.memory.specs.Filler.{Placed, inputFault, rowsFault}
+use Rattle.runs.specs.Honest.{Input, bare, filledRows}
+use Rattle.runs.specs.Filler.{Placed, inputFault, rowsFault}
 use Rattle.memory.specs.Print.{refusalText, filledText, headerText}
-use Rattle.memory.specs.FillFile.{fillLimit, fillAllowed, Job, job, noJob, jobFields, jobOf, jobRead, parseJob, InputLine, sound, faulty, inputFields, inputRead, parseInput, inputLineFault, inputsFault, inputOfLine, inputsOfLines, runText, inputsText, jobText, jobLinesText, fillLinesText, fillText}
-use Rattle.memory.specs.FillStream.{late}
+use Rattle.runs.specs.FillFile.{fillLimit, fillAllowed, Job, job, noJob, jobFields, jobOf, jobRead, parseJob, InputLine, sound, faulty, inputFields, inputRead, parseInput, inputLineFault, inputsFault, inputOfLine, inputsOfLines, runText, inputsText, jobText, jobLinesText, fillLinesText, fillText}
+use Rattle.runs.specs.FillStream.{late}
 use Rattle.demands.specs.Statements.{Fillable, FillNumber, FillAccepted, FillingAccepted}
 use Rattle.memory.proofs.ReadFields.{decided, read-fields}
 use Rattle.memory.proofs.ReadRows.{both-pass, chosen-zero}
-use Rattle.memory.proofs.HonestLookups.{All}
+use Rattle.runs.proofs.HonestLookups.{All}
 use Rattle.demands.proofs.HonestFile.{honest-file-accepted}
 use Rattle.demands.proofs.FillTested.{tested-rows-late}
 

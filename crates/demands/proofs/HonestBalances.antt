@@ -24,14 +24,15 @@ use Rattle.memory.specs.Bytes.{Line, allBelow}
 use Rattle.memory.specs.Rows.{allowed, opsDue, opIn}
 use Rattle.memory.specs.Equations.{Lists, listsOf, shuffleLists, rangedLists, fileLists, rangeBalances, memoryBalances}
 use Rattle.memory.specs.File.{noRow, parsedRow, rowsOf, parseRows, Refusal, refusal, firstFault, valuesFault}
-use Rattle.memory.specs.Plain.{start, right}
-use Rattle.memory.specs.Honest.{Input, inputOf, bare, filledRows, possible}
-use Rattle.memory.specs.Bound.{elements, accepts, malformed, rowsIn, traceIn, Advised}
+use Rattle.runs.specs.Plain.{start, right}
+use Rattle.runs.specs.Honest.{Input, inputOf, bare, filledRows, possible}
+use Rattle.memory.specs.Bound.{elements, accepts, malformed, rowsIn}
+use Rattle.runs.specs.Advised.{traceIn, Advised}
 use Rattle.memory.specs.Statements.{Holds}
-use Rattle.memory.proofs.HonestLookups.{rom-complete, set-complete}
-use Rattle.memory.proofs.RamComplete.{ram-complete, ram-range-complete}
-use Rattle.memory.proofs.StackComplete.{stack-balance, stack-range}
-use Rattle.memory.proofs.QueueComplete.{queue-balance}
+use Rattle.runs.proofs.HonestLookups.{rom-complete, set-complete}
+use Rattle.runs.proofs.RamComplete.{ram-complete, ram-range-complete}
+use Rattle.runs.proofs.StackComplete.{stack-balance, stack-range}
+use Rattle.runs.proofs.QueueComplete.{queue-balance}
 use Rattle.demands.proofs.Balance.{often-balances}
 use Rattle.memory.proofs.ReadRows.{both-pass, lines-below}
 use Rattle.memory.proofs.Operations.{other-not-due}

@@ -23,7 +23,7 @@ use Rattle.memory.specs.Bytes.{Line, comma, feed, same, allBelow, linesOf}
 use Rattle.memory.specs.Names.{valueNames, rowNames, memoryName, memoryNamed}
 use Rattle.memory.specs.Rows.{limit, allowed}
 use Rattle.memory.specs.File.{parsedRow, rowsOf, parseRows, refusal, accepted, balanceReport, rowsReport, valuesFault, valuesReport, opens, openedBy, valuesRead, parseValues, namesFault, namesReport, openingReport, linesReport, fileReport}
-use Rattle.memory.specs.Honest.{Input, filledRows}
+use Rattle.runs.specs.Honest.{Input, filledRows}
 use Rattle.memory.specs.Print.{numberText, rowsText, filledText, headerText}
 use Rattle.memory.specs.Step.{runOf, freshOf, endOf, reportOf}
 use Rattle.memory.specs.Bound.{elements}
@@ -32,7 +32,7 @@ use Rattle.memory.proofs.Fold.{run-is-file}
 use Rattle.memory.proofs.Phases.{Parts, parts-no-fault}
 use Rattle.memory.proofs.Gates.{parts-gates}
 use Rattle.memory.proofs.Decimal.{tenDigits}
-use Rattle.memory.proofs.Lengths.{numbers-length}
+use Rattle.runs.proofs.Lengths.{numbers-length}
 use Rattle.demands.proofs.RoundTrip.{above, line-first, joined, joined-above, numbers-line, allBelow-more, fields-back, rows-round-trip}
 use Rattle.demands.proofs.Advice.{valuesOf, Unrefused, no-refusal}
 use Rattle.demands.proofs.HonestRows.{filled-parts}

@@ -23,18 +23,19 @@ use Rattle.memory.specs.Bytes.{Line, allBelow}
 use Rattle.memory.specs.Names.{opCode, isOp}
 use Rattle.memory.specs.Rows.{allowed, raised, lowered, endsDue, rangesDue, opsDue, opIn, columns, used, usedOrZero, formed, depthProduct, sunk}
 use Rattle.memory.specs.Equations.{listsOf, fileLists}
-use Rattle.memory.specs.Plain.{Trace, Operation, start, allFit, right, operationOf, traceOf}
-use Rattle.memory.specs.Honest.{Input, inputOf, filledRow, bare, endRow, rangeRow, rangeRowsFrom, Cell, ramRow, ramEnds, romEndsFrom, setEndsFrom, stackEnds, operationsFilled, filledRows, possible}
+use Rattle.runs.specs.Plain.{Trace, Operation, start, allFit, right, operationOf, traceOf}
+use Rattle.runs.specs.Honest.{Input, inputOf, filledRow, bare, endRow, rangeRow, rangeRowsFrom, Cell, ramRow, ramEnds, romEndsFrom, setEndsFrom, stackEnds, operationsFilled, filledRows, possible}
 use Rattle.memory.specs.File.{parseRows, refusal, firstFault}
-use Rattle.memory.specs.Bound.{rowsIn, traceIn, Advised}
+use Rattle.memory.specs.Bound.{rowsIn}
+use Rattle.runs.specs.Advised.{traceIn, Advised}
 use Rattle.demands.specs.Statements.{HonestRows, RefusedNotRight}
-use Rattle.memory.proofs.Operations.{Inputs, inputAt, input-cases}
-use Rattle.memory.proofs.HonestLookups.{honest, romRow, romOps, romFinal, rom-rows, rom-inputs, length-romOps, length-romFinal, rom-right-possible, rom-right-trace, setRow, setOps, setFinal, set-rows, set-inputs, length-setOps, length-setFinal, set-right-possible, set-right-trace}
-use Rattle.memory.proofs.RamCells.{startCells}
-use Rattle.memory.proofs.RamComplete.{ramOps, ram-inputs, ramFinalAges, ramOpRows, ramEndRows, ramRangeRows, ram-rows, ram-op-rows-length, ram-end-rows-length, ranges-length}
-use Rattle.memory.proofs.RamRight.{ram-right-possible, ram-right-same}
-use Rattle.memory.proofs.StackComplete.{stackRow, stack-inputs, stackOps, stackFinalAges, stackOpRows, stackEndRows, stackRangeRows, stack-filled, stack-length, stack-not-below, stack-ends-due, stack-right-possible, stack-right-operations}
-use Rattle.memory.proofs.QueueComplete.{queueRow, queue-inputs, queueOps, queueFinal, queueEnds, queue-filled, queue-length, queue-nonzero, queue-ends-due, queue-right-possible, queue-right-operations}
+use Rattle.runs.proofs.Inputs.{Inputs, inputAt, input-cases}
+use Rattle.runs.proofs.HonestLookups.{honest, romRow, romOps, romFinal, rom-rows, rom-inputs, length-romOps, length-romFinal, rom-right-possible, rom-right-trace, setRow, setOps, setFinal, set-rows, set-inputs, length-setOps, length-setFinal, set-right-possible, set-right-trace}
+use Rattle.runs.proofs.RamCells.{startCells}
+use Rattle.runs.proofs.RamComplete.{ramOps, ram-inputs, ramFinalAges, ramOpRows, ramEndRows, ramRangeRows, ram-rows, ram-op-rows-length, ram-end-rows-length, ranges-length}
+use Rattle.runs.proofs.RamRight.{ram-right-possible, ram-right-same}
+use Rattle.runs.proofs.StackComplete.{stackRow, stack-inputs, stackOps, stackFinalAges, stackOpRows, stackEndRows, stackRangeRows, stack-filled, stack-length, stack-not-below, stack-ends-due, stack-right-possible, stack-right-operations}
+use Rattle.runs.proofs.QueueComplete.{queueRow, queue-inputs, queueOps, queueFinal, queueEnds, queue-filled, queue-length, queue-nonzero, queue-ends-due, queue-right-possible, queue-right-operations}
 use Rattle.memory.proofs.ReadRows.{both-pass, RowBelow, RowsBelow, lines-below, taken-below, dropped-below}
 use Rattle.memory.proofs.Phases.{DueRow, DueRows, Parts, only-op, formed-guard, due-ops, parts-inits, parts-ops, parts-lists, lines-parts, parts-no-fault}
 use Rattle.demands.proofs.Advice.{filled-advised, DueInput, DueInputs, valuesOf, Unrefused, unrefused-zero}

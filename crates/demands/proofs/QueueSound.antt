@@ -17,9 +17,9 @@ use Rattle.memory.specs.declared.Row.{Row}
 use Rattle.memory.specs.Names.{opCode, isOp}
 use Rattle.memory.specs.Rows.{raiseBy, lowerBy, opsDue, depthFactor, depthProduct}
 use Rattle.memory.specs.Equations.{enqueues, dequeues}
-use Rattle.memory.specs.Plain.{operationOf, allFit, fits, after, holds}
+use Rattle.runs.specs.Plain.{operationOf, allFit, fits, after, holds}
 use Rattle.memory.proofs.Operations.{Ops, rowAt, row-cases}
-use Rattle.memory.proofs.Differences.{minus-exact}
+use Rattle.runs.proofs.Differences.{minus-exact}
 
 -- the two halves of a product that is not 0
 pub left-factor : (q x y : ℕ) → times q x y ≢ 0 → x ≢ 0

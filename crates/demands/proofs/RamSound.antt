@@ -17,12 +17,12 @@ use Rattle.algebra.proofs.Multiset.{total-append}
 use Rattle.memory.specs.declared.Memory.the-variants.{Ram}
 use Rattle.memory.specs.declared.Row.{Row}
 use Rattle.memory.specs.Equations.{Triple, triple, initWrites, accessRead, newOf, accessWrites, accessLookups}
-use Rattle.memory.specs.Plain.{allFit, operationOf}
-use Rattle.memory.specs.Honest.{Cell, cellAt}
-use Rattle.memory.proofs.Ages.{InRange}
-use Rattle.memory.proofs.Clock.{age-of-later}
+use Rattle.runs.specs.Plain.{allFit, operationOf}
+use Rattle.runs.specs.Honest.{Cell, cellAt}
+use Rattle.runs.proofs.Ages.{InRange}
+use Rattle.runs.proofs.Clock.{age-of-later}
 use Rattle.demands.proofs.Records.{isRecord, record-itself, counted-parts, not-counted}
-use Rattle.memory.proofs.RamCells.{contents, cellRecord, cellRecords, startCells, start-contents, start-records, Reads, accessed, access-exchange, access-fits, access-after, Balanced}
+use Rattle.runs.proofs.RamCells.{contents, cellRecord, cellRecords, startCells, start-contents, start-records, Reads, accessed, access-exchange, access-fits, access-after, Balanced}
 
 -- a record whose time none of the writes to come has does not occur in them
 later-writes-apart : (r : Triple) (clock : ℕ) (ops : List Row) → (clock ≤ r .z → r .z < clock + length ops → ⊥)

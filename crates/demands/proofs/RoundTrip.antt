@@ -19,7 +19,7 @@ use Rattle.memory.specs.Names.{opName, opNamed, opCode, isOp}
 use Rattle.memory.specs.Rows.{rowWith, rowRead, parseRow}
 use Rattle.memory.specs.Print.{numberText, numbersText, rowText, rowsText}
 use Rattle.memory.proofs.Decimal.{tenDigits, number-digits, number-value, number-numeral}
-use Rattle.memory.proofs.Lengths.{both-true, columnsOf, row-length}
+use Rattle.runs.proofs.Lengths.{both-true, columnsOf, row-length}
 
 -- a text whose bytes are all above c: a field's are above the comma, a line's above the line feed
 unfoldable pub above : ℕ → List ℕ → Bool

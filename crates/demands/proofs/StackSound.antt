@@ -19,14 +19,14 @@ use Rattle.memory.specs.declared.Row.{Row}
 use Rattle.memory.specs.Names.{opCode, isOp}
 use Rattle.memory.specs.Rows.{raiseBy, lowerBy, opsDue}
 use Rattle.memory.specs.Equations.{Triple, triple, pushWrite, pushWrites, popRead, popReads, popLookup, popLookups}
-use Rattle.memory.specs.Plain.{operationOf, allFit, fits, after}
-use Rattle.memory.specs.Honest.{Cell, cell}
-use Rattle.memory.proofs.Ages.{InRange}
-use Rattle.memory.proofs.Clock.{age-of-later}
+use Rattle.runs.specs.Plain.{operationOf, allFit, fits, after}
+use Rattle.runs.specs.Honest.{Cell, cell}
+use Rattle.runs.proofs.Ages.{InRange}
+use Rattle.runs.proofs.Clock.{age-of-later}
 use Rattle.memory.proofs.Operations.{Ops, rowAt, row-cases}
-use Rattle.memory.proofs.Differences.{minus-exact}
+use Rattle.runs.proofs.Differences.{minus-exact}
 use Rattle.demands.proofs.Records.{isRecord, record-itself, counted-parts, not-counted}
-use Rattle.memory.proofs.StackCells.{stackRecords, Balanced, stacked, pop-top, pop-after}
+use Rattle.runs.proofs.StackCells.{stackRecords, Balanced, stacked, pop-top, pop-after}
 
 -- a record at a height above the cells is none of theirs
 records-below : (r : Triple) (cells : List Cell) → length cells < r .x → total (isRecord r) (stackRecords cells) ≡ 0

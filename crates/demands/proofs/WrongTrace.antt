@@ -29,12 +29,12 @@ use Rattle.memory.specs.Equations.{rangeSetup, rangeRead, rangeWrite, rangeEnds
 use Rattle.memory.specs.Equations.{popLookups, enqueues, dequeues, endOlds, shuffleLists, rangedLists, listsOf}
 use Rattle.memory.specs.Equations.{endRows, rangeRows, fileLists, rangeBalances, memoryBalances}
 use Rattle.memory.specs.Gates.{takes}
-use Rattle.memory.specs.Plain.{start, right, traceOf}
+use Rattle.runs.specs.Plain.{start, right, traceOf}
 use Rattle.memory.specs.Bound.{challenges, degree}
-use Rattle.memory.proofs.Ages.{InRange}
+use Rattle.runs.proofs.Ages.{InRange}
 use Rattle.memory.proofs.Operations.{Ops, rowAt, row-cases}
-use Rattle.memory.proofs.Differences.{minus-exact}
-use Rattle.memory.proofs.Lookups.{rom-sound, set-sound, range-sound}
+use Rattle.runs.proofs.Differences.{minus-exact}
+use Rattle.runs.proofs.Lookups.{rom-sound, set-sound, range-sound}
 use Rattle.demands.proofs.RamSound.{ram-sound}
 use Rattle.demands.proofs.StackSound.{stack-sound}
 use Rattle.demands.proofs.QueueSound.{left-factor, right-factor, queue-sound}

@@ -17,14 +17,15 @@ use Rattle.memory.specs.Bytes.{Line, linesOf}
 use Rattle.memory.specs.Rows.{allowed, raised, lowered, initRows}
 use Rattle.memory.specs.Gates.{inputsFormula, multsFormula, puts, takes}
 use Rattle.memory.specs.File.{headLines, firstFault, refusal, parseRows, fileReport}
-use Rattle.memory.specs.Plain.{right, traceOf}
-use Rattle.memory.specs.Honest.{Input, initInputs, operationInputs, filledRows, refilledRows}
+use Rattle.runs.specs.Plain.{right, traceOf}
+use Rattle.runs.specs.Honest.{Input, initInputs, operationInputs, filledRows, refilledRows}
 use Rattle.memory.specs.Step.{endOf, runOf, freshOf, reportOf}
-use Rattle.memory.specs.Filler.{rowsFault}
+use Rattle.runs.specs.Filler.{rowsFault}
 use Rattle.memory.specs.Print.{rowsText, refusalText, filledText, headerText}
-use Rattle.memory.specs.FillFile.{job, parseJob, parseInput, inputsOfLines, inputsFault, fillText}
-use Rattle.memory.specs.FillStream.{late}
-use Rattle.memory.specs.Bound.{elements, accepts, challenges, malformed, degree, rowsIn, traceIn, Advised}
+use Rattle.runs.specs.FillFile.{job, parseJob, parseInput, inputsOfLines, inputsFault, fillText}
+use Rattle.runs.specs.FillStream.{late}
+use Rattle.memory.specs.Bound.{elements, accepts, challenges, malformed, degree, rowsIn}
+use Rattle.runs.specs.Advised.{traceIn, Advised}
 
 -- Demand 3, for one list of rows: where they are incomplete or malformed, or meet 8, no challenge accepts them; else, where the trace is wrong, at most 2·m·p³ of
 -- the p⁴ challenges do, whatever the advice; and where it is right and the advice is the filler's, all p⁴ do

@@ -14,7 +14,7 @@ use lib.ListN.{length, getD, set, take, drop, length-set, length-drop}
 use lib.Seq.{take-all, drop-cons, drop-drop, drop-length, take-suc-set}
 use borrow.Author.Tests.{eq-eqb, ne-eqb, le-leb, lt-leb}
 use Rattle.field.specs.Field.{p}
-use Rattle.memory.specs.Bytes.{Line, longest, fitting, comma, onto, fields, digit, digits, decimalFrom, numeral, numerals, numbers, allBelow, readable}
+use Rattle.memory.specs.Bytes.{longest, fitting, comma, onto, fields, digit, digits, decimalFrom, numeral, numerals, numbers, allBelow, readable}
 use Rattle.keys.specs.declared.Name.{Name}
 use Rattle.decimal.specs.declared.Number.{Number}
 use Rattle.decimal.specs.declared.Number.the-variants.{Read, Unread}

@@ -9,7 +9,7 @@ use Rattle.field.specs.Field.{p}
 use Rattle.memory.specs.declared.Memory.{Memory}
 use Rattle.memory.specs.Bytes.{Line, fieldsOf}
 use Rattle.memory.specs.Names.{opNamed, memoryNamed}
-use Rattle.memory.specs.FillFile.{Job, noJob, jobFields, jobOf, jobRead, parseJob, faulty, inputFields, inputRead, parseInput}
+use Rattle.runs.specs.FillFile.{Job, noJob, jobFields, jobOf, jobRead, parseJob, faulty, inputFields, inputRead, parseInput}
 use Rattle.fields.proofs.Parts.{Keyed, byKey}
 use Rattle.keys.specs.Keys.{opKeyed, memoryKeyed}
 use Rattle.keys.proofs.Keys.{Bytes}

@@ -4,7 +4,7 @@ use Prim.Native.Nat.{ℕ}
 use mathlib.Core.List.{List}
 use lib.ListN.{getD}
 use Rattle.memory.specs.declared.Op.{Op}
-use Rattle.memory.specs.FillFile.{Job, job, noJob, InputLine, sound, faulty}
+use Rattle.runs.specs.FillFile.{Job, job, noJob, InputLine, sound, faulty}
 use Rattle.fill_lines.specs.declared.Task.{Task}
 use Rattle.fill_lines.specs.declared.Task.the-variants as task
 use Rattle.fill_lines.specs.declared.Given.{Given}

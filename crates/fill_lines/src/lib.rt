@@ -7,7 +7,7 @@ ghost use Rattle.field.specs.Field.{p};
 ghost use Rattle.memory.specs.Bytes.{allBelow};
 ghost use Rattle.memory.specs.Names.{fillNames, inputNames};
 ghost use Rattle.memory.specs.File.{namesFault};
-ghost use Rattle.memory.specs.FillFile.{fillAllowed, jobOf, parseJob, parseInput};
+ghost use Rattle.runs.specs.FillFile.{fillAllowed, jobOf, parseJob, parseInput};
 ghost use Rattle.keys.specs.Keys.{knownOf};
 ghost use Rattle.fill_lines.specs.Answers.{taskOf, givenOf, inputWith};
 use fields::Found;

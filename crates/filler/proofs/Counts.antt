@@ -14,7 +14,7 @@ use lib.Dec.{eqb}
 use lib.ListN.{length, getD}
 use lib.Seq.{getD-set-same, getD-set-other}
 use borrow.Author.Tests.{eq-eqb, ne-eqb}
-use Rattle.memory.specs.Honest.{occurrences, rangeRow, rangeRowsFrom}
+use Rattle.runs.specs.Honest.{occurrences, rangeRow, rangeRowsFrom}
 use Rattle.filler.specs.Steps.{counted}
 use Rattle.filler.specs.Ends.{ranges}
 

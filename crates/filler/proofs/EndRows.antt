@@ -9,8 +9,8 @@ use lib.Seq.{sets}
 use Rattle.memory.specs.declared.Memory.{Memory}
 use Rattle.memory.specs.declared.Memory.the-variants.{Ram, Rom, Set, Stack, Queue}
 use Rattle.memory.specs.Names.{opCode}
-use Rattle.memory.specs.Honest.{endRow, rangeRow}
-use Rattle.memory.specs.Filler.{rowNumbers}
+use Rattle.runs.specs.Honest.{endRow, rangeRow}
+use Rattle.runs.specs.Filler.{rowNumbers}
 use Rattle.filler.specs.declared.steps.Cursor.{Cursor}
 use Rattle.index.specs.Values.{valuesIn, valueAt}
 use Rattle.layout.specs.Laid.{laid}

@@ -16,9 +16,9 @@ use Rattle.memory.specs.declared.Memory.the-variants.{Ram, Rom, Set, Stack, Que
 use Rattle.memory.specs.declared.Phase.the-variants.{Operating}
 use Rattle.memory.specs.Names.{opCode, isOp}
 use Rattle.memory.specs.Rows.{opsDue, sized}
-use Rattle.memory.specs.Plain.{store, load, push, skippedPush, pop, skippedPop, enqueue, skippedEnqueue, dequeue, skippedDequeue, start, after, among, front, holds, operationOf}
-use Rattle.memory.specs.Honest.{Input, bare, filledRow, impossible, inputOperation}
-use Rattle.memory.specs.Filler.{inputFault, operationFault, operationsFault, rowsFault, Placed, placed}
+use Rattle.runs.specs.Plain.{store, load, push, skippedPush, pop, skippedPop, enqueue, skippedEnqueue, dequeue, skippedDequeue, start, after, among, front, holds, operationOf}
+use Rattle.runs.specs.Honest.{Input, bare, filledRow, impossible, inputOperation}
+use Rattle.runs.specs.Filler.{inputFault, operationFault, operationsFault, rowsFault, Placed, placed}
 use Rattle.filler.specs.Scan.{refusal, leveled, faultAt, scanned, initFault, initsScanned}
 use Rattle.filler.proofs.Forms.{init-any}
 

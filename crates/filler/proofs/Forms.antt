@@ -18,11 +18,11 @@ use Rattle.memory.specs.declared.Memory.the-variants.{Ram, Rom, Set, Stack, Que
 use Rattle.memory.specs.declared.Op.{Op}
 use Rattle.memory.specs.declared.Op.the-variants.{Init, Access, Look, Member, Push, Pop, Enqueue, Dequeue, End, Range, Other}
 use Rattle.memory.specs.declared.Phase.the-variants.{Starting, Operating}
-use Rattle.memory.specs.Names.{opCode, isOp}
+use Rattle.memory.specs.Names.{opCode, isOp, opCoded}
 use Rattle.memory.specs.Bytes.{allBelow}
 use Rattle.memory.specs.Rows.{opsDue, opIn, formed, used, columns, usedOrZero}
-use Rattle.memory.specs.Honest.{Input, bare, filledRow}
-use Rattle.memory.specs.Filler.{opCoded, inputFault}
+use Rattle.runs.specs.Honest.{Input, bare, filledRow}
+use Rattle.runs.specs.Filler.{inputFault}
 use Rattle.filler.specs.Scan.{initFault}
 
 -- a number below 10 stands for an op of that number

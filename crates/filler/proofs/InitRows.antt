@@ -13,8 +13,8 @@ use lib.ListN.{length, drop}
 use lib.Seq.{sets}
 use borrow.Author.Tests.{eqb-true, eqb-false}
 use Rattle.field.specs.Field.{p}
-use Rattle.memory.specs.Honest.{Input, bare}
-use Rattle.memory.specs.Filler.{inputsIn, Placed, placed}
+use Rattle.runs.specs.Honest.{Input, bare}
+use Rattle.runs.specs.Filler.{inputsIn, Placed, placed}
 use Rattle.index.specs.Values.{valueAt}
 use Rattle.layout.specs.Laid.{laid}
 use Rattle.filler.specs.Words.{opAt, guardAt, addrAt, inputAt, copied}

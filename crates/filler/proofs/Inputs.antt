@@ -9,8 +9,9 @@ use native.Mathlib.Omega.{arith}
 use mathlib.Core.Path.{_≡_, refl, sym, ap, _∙_}
 use mathlib.Core.List.{List, [], _∷_, map}
 use lib.ListN.{length, getD, take, drop, length-map}
-use Rattle.memory.specs.Honest.{Input}
-use Rattle.memory.specs.Filler.{opCoded, inputsIn}
+use Rattle.runs.specs.Honest.{Input}
+use Rattle.memory.specs.Names.{opCoded}
+use Rattle.runs.specs.Filler.{inputsIn}
 use Rattle.index.specs.Values.{valueAt, valuesIn}
 use Rattle.filler.specs.Words.{inputAt}
 

@@ -13,7 +13,7 @@ use mathlib.Core.List.{List, [], _∷_}
 use lib.Dec.{eqb, ltb, leb·suc-suc, leb·suc-zero}
 use lib.ListN.{length, getD, replicate}
 use borrow.Author.Tests.{lt-ltb}
-use Rattle.memory.specs.Plain.{among}
+use Rattle.runs.specs.Plain.{among}
 use Rattle.index.specs.Values.{valuesIn, firstAt}
 use Rattle.index.specs.Tree.{found, grown}
 use Rattle.index.proofs.Places.{first-here, first-later}

@@ -20,9 +20,9 @@ use Rattle.memory.specs.declared.Memory.the-variants.{Ram, Rom, Set, Stack, Que
 use Rattle.memory.specs.declared.Row.{Row}
 use Rattle.memory.specs.declared.Phase.the-variants.{Operating}
 use Rattle.memory.specs.Rows.{opsDue, limit}
-use Rattle.memory.specs.Plain.{among}
-use Rattle.memory.specs.Honest.{Input, filledRow}
-use Rattle.memory.specs.Filler.{inputsIn, rowNumbers, inputFault, Placed, placed}
+use Rattle.runs.specs.Plain.{among}
+use Rattle.runs.specs.Honest.{Input, filledRow}
+use Rattle.runs.specs.Filler.{inputsIn, rowNumbers, inputFault, Placed, placed}
 use Rattle.index.specs.Values.{valueAt}
 use Rattle.layout.specs.Laid.{laid}
 use Rattle.filler.specs.Words.{opAt, guardAt, addrAt, inputAt, copied}

@@ -14,8 +14,8 @@ use borrow.Author.Tests.{eqb-true}
 use Rattle.memory.specs.declared.Memory.{Memory}
 use Rattle.memory.specs.declared.Memory.the-variants.{Ram, Rom, Set, Stack, Queue}
 use Rattle.memory.specs.Rows.{sized}
-use Rattle.memory.specs.Honest.{operationsFilled}
-use Rattle.memory.specs.Filler.{inputsIn, room}
+use Rattle.runs.specs.Honest.{operationsFilled}
+use Rattle.runs.specs.Filler.{inputsIn, room}
 use Rattle.filler.specs.declared.steps.Cursor.{Cursor}
 use Rattle.index.specs.Values.{valuesIn}
 use Rattle.filler.specs.Steps.{Turned, turn, advanced, Ready, toldBy, ramTold, romTold, setTold}

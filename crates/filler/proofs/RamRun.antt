@@ -14,8 +14,8 @@ use lib.Dec.{eqb}
 use lib.ListN.{length, getD, set, drop, length-set, length-map, drop-of-length-le, List·getD-map}
 use lib.Seq.{sets, getD-set-same, getD-set-other}
 use Rattle.memory.specs.declared.Memory.the-variants.{Ram}
-use Rattle.memory.specs.Honest.{Cell, cell, cellAt, filledRow, endRow, rangeRowsFrom, occurrences, ramAge, ramRow, ramCells, ramEnds, ramFrom, operationsFilled}
-use Rattle.memory.specs.Filler.{inputsIn}
+use Rattle.runs.specs.Honest.{Cell, cell, cellAt, filledRow, endRow, rangeRowsFrom, occurrences, ramAge, ramRow, ramCells, ramEnds, ramFrom, operationsFilled}
+use Rattle.runs.specs.Filler.{inputsIn}
 use Rattle.index.specs.Values.{valueAt, valuesIn}
 use Rattle.filler.specs.Words.{opAt, guardAt, addrAt, inputAt}
 use Rattle.filler.specs.Steps.{Turn, turnOf, counted, ramTold, RamReady}

@@ -9,8 +9,8 @@ use mathlib.Core.List.{List, [], _∷_}
 use lib.ListN.{length, getD, drop, length-set, drop-of-length-le}
 use lib.Seq.{sets}
 use Rattle.memory.specs.declared.Memory.the-variants.{Rom}
-use Rattle.memory.specs.Honest.{filledRow, endRow, occurrences, romFrom, romEndsFrom, operationsFilled}
-use Rattle.memory.specs.Filler.{inputsIn, rowNumbers}
+use Rattle.runs.specs.Honest.{filledRow, endRow, occurrences, romFrom, romEndsFrom, operationsFilled}
+use Rattle.runs.specs.Filler.{inputsIn, rowNumbers}
 use Rattle.index.specs.Values.{valueAt, valuesIn}
 use Rattle.filler.specs.Words.{opAt, guardAt, addrAt, inputAt}
 use Rattle.filler.specs.Steps.{Turn, turnOf, romTold, RomReady}

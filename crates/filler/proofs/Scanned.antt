@@ -18,9 +18,9 @@ use Rattle.memory.specs.declared.Memory.{Memory}
 use Rattle.memory.specs.declared.Memory.the-variants.{Ram, Rom, Set, Stack, Queue}
 use Rattle.memory.specs.declared.Op.{Op}
 use Rattle.memory.specs.declared.Phase.the-variants.{Operating}
-use Rattle.memory.specs.Names.{opCode}
+use Rattle.memory.specs.Names.{opCode, opCoded}
 use Rattle.memory.specs.Rows.{opsDue}
-use Rattle.memory.specs.Filler.{opCoded, inputsIn, inputFault, placed}
+use Rattle.runs.specs.Filler.{inputsIn, inputFault, placed}
 use Rattle.words.specs.declared.Input as words
 use Rattle.filler.specs.Words.{opAt, guardAt, inputOf, inputAt, wordsAt}
 use Rattle.filler.specs.Scan.{emptied, refusal, moved, leveled, faultAt, scanned, initFault, initsScanned}

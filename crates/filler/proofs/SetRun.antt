@@ -14,9 +14,9 @@ use lib.ListN.{length, getD, take, drop, length-set, drop-of-length-le}
 use lib.Seq.{sets, getD-set-same, getD-set-other, drop-cons, take-set-le}
 use borrow.Author.Tests.{ltb-true, ltb-false, eqb-true, eq-eqb, ne-eqb, lt-ltb, le-ltb}
 use Rattle.memory.specs.declared.Memory.the-variants.{Set}
-use Rattle.memory.specs.Plain.{among}
-use Rattle.memory.specs.Honest.{filledRow, endRow, occurrences, setFrom, setEndsFrom, operationsFilled}
-use Rattle.memory.specs.Filler.{inputsIn, rowNumbers}
+use Rattle.runs.specs.Plain.{among}
+use Rattle.runs.specs.Honest.{filledRow, endRow, occurrences, setFrom, setEndsFrom, operationsFilled}
+use Rattle.runs.specs.Filler.{inputsIn, rowNumbers}
 use Rattle.index.specs.Values.{valueAt, valuesIn, firstAt}
 use Rattle.filler.specs.Words.{opAt, guardAt, addrAt, inputAt, TreeIn}
 use Rattle.filler.specs.Steps.{Turn, turnOf, counted, setTold, SetReady}

@@ -20,8 +20,8 @@ use Rattle.field.specs.Field.{p}
 use Rattle.memory.specs.declared.Memory.{Memory}
 use Rattle.memory.specs.declared.Memory.the-variants.{Ram, Rom, Set, Stack, Queue}
 use Rattle.memory.specs.Rows.{limit, sized, allowed}
-use Rattle.memory.specs.Honest.{Input, filledRows}
-use Rattle.memory.specs.Filler.{inputsIn, rowNumbers, rowsFault, memoryCoded, room, Filling, turnedAway, rowRefused, filledWith, fillRows, fillMemory, fillOf}
+use Rattle.runs.specs.Honest.{Input, filledRows}
+use Rattle.runs.specs.Filler.{inputsIn, rowNumbers, rowsFault, memoryCoded, room, Filling, turnedAway, rowRefused, filledWith, fillRows, fillMemory, fillOf}
 use Rattle.filler.specs.declared.Filled.the-variants.{Rows, Refused}
 use Rattle.filler.specs.Answer.{answerOf, placeOf, countOf, fillingOf, awayBy, Roomy}
 use Rattle.layout.specs.Laid.{laid}

@@ -9,7 +9,7 @@ use lib.Dec.{eqb, leb}
 use lib.ListN.{length}
 use Rattle.memory.specs.declared.Memory.{Memory}
 use Rattle.memory.specs.Rows.{allowed}
-use Rattle.memory.specs.Filler.{Filling, room}
+use Rattle.runs.specs.Filler.{Filling, room}
 use Rattle.filler.specs.declared.Filled.{Filled}
 use Rattle.filler.specs.declared.Filled.the-variants.{Rows, Refused}
 use Rattle.filler.specs.declared.Known.{Known}

@@ -7,7 +7,7 @@ use lib.ListN.{length, getD}
 use Rattle.memory.specs.declared.Memory.{Memory}
 use Rattle.memory.specs.declared.Memory.the-variants.{Ram, Rom, Set, Stack, Queue}
 use Rattle.memory.specs.declared.Row.{Row}
-use Rattle.memory.specs.Honest.{endRow, rangeRow}
+use Rattle.runs.specs.Honest.{endRow, rangeRow}
 use Rattle.filler.specs.declared.steps.Cursor.{Cursor}
 use Rattle.index.specs.Values.{valuesIn}
 

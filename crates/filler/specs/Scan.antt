@@ -9,11 +9,11 @@ use lib.Dec.{eqb, ltb}
 use Rattle.memory.specs.declared.Memory.{Memory}
 use Rattle.memory.specs.declared.Memory.the-variants.{Ram, Rom, Set, Stack, Queue}
 use Rattle.memory.specs.declared.Phase.the-variants.{Starting, Operating}
-use Rattle.memory.specs.Plain.{among}
+use Rattle.runs.specs.Plain.{among}
 use Rattle.memory.specs.Rows.{opsDue}
 use Rattle.memory.specs.Names.{opCode}
-use Rattle.memory.specs.Honest.{Input}
-use Rattle.memory.specs.Filler.{inputFault, Placed, placed}
+use Rattle.runs.specs.Honest.{Input}
+use Rattle.runs.specs.Filler.{inputFault, Placed, placed}
 use Rattle.filler.specs.Words.{TreeIn}
 
 -- 12: an executed pop or dequeue at depth 0

@@ -5,8 +5,8 @@ use mathlib.Core.Path.{_≡_}
 use mathlib.Core.List.{List, [], _∷_}
 use lib.ListN.{length, getD, replicate}
 use Rattle.memory.specs.Rows.{limit}
-use Rattle.memory.specs.Honest.{Input}
-use Rattle.memory.specs.Filler.{opCoded}
+use Rattle.runs.specs.Honest.{Input}
+use Rattle.memory.specs.Names.{opCoded}
 use Rattle.words.specs.declared.Input as words
 use Rattle.index.specs.Values.{valueAt, valuesIn}
 use Rattle.index.specs.Tree.{grown}

@@ -9,8 +9,8 @@ use Rattle.field.specs.Field.{p}
 use Rattle.memory.specs.declared.Memory.{Memory}
 use Rattle.memory.specs.declared.Memory.the-variants.{Ram, Rom, Set, Stack, Queue}
 use Rattle.memory.specs.Rows.{sized, limit}
-use Rattle.memory.specs.Honest.{operationsFilled}
-use Rattle.memory.specs.Filler.{inputsIn, room}
+use Rattle.runs.specs.Honest.{operationsFilled}
+use Rattle.runs.specs.Filler.{inputsIn, room}
 use Rattle.filler.specs.declared.steps.Cursor.{Cursor}
 use Rattle.index.specs.Values.{valuesIn}
 use Rattle.layout.specs.Laid.{laid}

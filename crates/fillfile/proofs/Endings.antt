@@ -7,13 +7,13 @@ use mathlib.Core.List.{List}
 use lib.ListN.{length, take}
 use borrow.Author.Tests.{eq-eqb, ne-eqb}
 use Rattle.field.specs.Field.{p}
-use Rattle.memory.specs.declared.Intake.{Intake}
+use Rattle.runs.specs.declared.Intake.{Intake}
 use Rattle.memory.specs.Step.{raise}
-use Rattle.memory.specs.Filler.{memoryCode, fillOf}
+use Rattle.runs.specs.Filler.{memoryCode, fillOf}
 use Rattle.memory.specs.Print.{filledText, refusalText}
 use Rattle.memory.specs.Pieces.{piece, lastIn, endIn}
-use Rattle.memory.specs.FillStream.{Gathered, gathered, rowsDue, lineTaken, endTaken, dueWords}
-use Rattle.memory.proofs.FillStream.{end-values}
+use Rattle.runs.specs.FillStream.{Gathered, gathered, rowsDue, lineTaken, endTaken, dueWords}
+use Rattle.runs.proofs.FillStream.{end-values}
 use Rattle.pieces.specs.Calls.{standsFor}
 use Rattle.pieces.proofs.Parts.{take-within}
 use Rattle.filler.specs.declared.Filled.{Filled}

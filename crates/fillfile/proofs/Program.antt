@@ -13,23 +13,23 @@ use borrow.Author.Tests.{eq-eqb, le-leb}
 use Rattle.field.specs.Field.{p}
 use Rattle.memory.specs.declared.Memory.{Memory}
 use Rattle.memory.specs.declared.Row.{Row}
-use Rattle.memory.specs.declared.Intake.{Intake}
+use Rattle.runs.specs.declared.Intake.{Intake}
 use Rattle.memory.specs.declared.Phase.the-variants.{Starting}
 use Rattle.memory.specs.Rows.{allowed, opsDue}
 use Rattle.memory.specs.File.{noRow}
-use Rattle.memory.specs.Plain.{start, after}
+use Rattle.runs.specs.Plain.{start, after}
 use Rattle.memory.specs.Step.{top, raise}
-use Rattle.memory.specs.Honest.{Input, filledRows, inputOperation}
-use Rattle.memory.specs.Filler.{memoryCode, inputsIn, rowNumbers, room, Placed, placed, operationFault, operationsFault, inputFault, rowsFault, filledWith, rowRefused, fillRows, fillMemory, fillOf}
+use Rattle.runs.specs.Honest.{Input, filledRows, inputOperation}
+use Rattle.runs.specs.Filler.{memoryCode, inputsIn, rowNumbers, room, Placed, placed, operationFault, operationsFault, inputFault, rowsFault, filledWith, rowRefused, fillRows, fillMemory, fillOf}
 use Rattle.memory.specs.Print.{filledText, refusalText}
-use Rattle.memory.specs.FillFile.{fillLimit, fillAllowed, runText, fillText}
+use Rattle.runs.specs.FillFile.{fillLimit, fillAllowed, runText, fillText}
 use Rattle.memory.specs.Pieces.{Piece, piece, bytesIn, lastIn, endIn}
-use Rattle.memory.specs.FillStream.{Gathered, gathered, untaken, lineTaken, endTaken, gatheredText, dueWords, unfilled, fillEnd, rowsDue}
+use Rattle.runs.specs.FillStream.{Gathered, gathered, untaken, lineTaken, endTaken, gatheredText, dueWords, unfilled, fillEnd, rowsDue}
 use Rattle.memory.proofs.ReadRows.{both-pass}
-use Rattle.memory.proofs.FillerRows.{memory-coded}
+use Rattle.runs.proofs.FillerRows.{memory-coded}
 use Rattle.memory.proofs.Pieces.{last-cut}
-use Rattle.memory.proofs.FillStream.{Fitted, fitted-end, end-values, cut-line, fill-limited, fill-stream-is-text}
-use Rattle.memory.proofs.FillLength.{fill-text-short}
+use Rattle.runs.proofs.FillStream.{Fitted, fitted-end, end-values, cut-line, fill-limited, fill-stream-is-text}
+use Rattle.runs.proofs.FillLength.{fill-text-short}
 use Rattle.pieces.specs.Block.{LinesTaken}
 use Rattle.pieces.specs.Calls.{started, joined}
 use Rattle.pieces.proofs.Feeds.{block-read}

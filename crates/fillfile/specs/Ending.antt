@@ -9,10 +9,10 @@ use lib.ListN.{length}
 use Rattle.field.specs.Field.{p}
 use Rattle.memory.specs.declared.Row.{Row}
 use Rattle.memory.specs.Step.{raise}
-use Rattle.memory.specs.Filler.{memoryCode, Filling, fillOf}
+use Rattle.runs.specs.Filler.{memoryCode, Filling, fillOf}
 use Rattle.memory.specs.Print.{filledText, refusalText}
 use Rattle.memory.specs.Pieces.{endIn}
-use Rattle.memory.specs.FillStream.{Gathered, lineTaken, endTaken, dueWords}
+use Rattle.runs.specs.FillStream.{Gathered, lineTaken, endTaken, dueWords}
 use Rattle.pieces.specs.Calls.{Left, standsFor}
 use Rattle.filler.specs.declared.Filled.{Filled}
 use Rattle.filler.specs.Answer.{answerOf, placeOf, countOf}

@@ -2,7 +2,7 @@
 -- Assumes nothing.
 use Prim.Native.Nat.{ℕ}
 use mathlib.Core.List.{List}
-use Rattle.memory.specs.FillStream.{Gathered, gathered, untaken}
+use Rattle.runs.specs.FillStream.{Gathered, gathered, untaken}
 use Rattle.pieces.specs.Calls.{Left}
 use Rattle.fillfile.specs.declared.Progress.{Progress}
 

@@ -5,9 +5,9 @@ use mathlib.Core.Path.{_≡_}
 use mathlib.Core.List.{List}
 use lib.ListN.{length, take}
 use Rattle.field.specs.Field.{p}
-use Rattle.memory.specs.Filler.{room}
-use Rattle.memory.specs.FillFile.{fillLimit, fillText}
-use Rattle.memory.specs.FillStream.{Gathered, lineTaken}
+use Rattle.runs.specs.Filler.{room}
+use Rattle.runs.specs.FillFile.{fillLimit, fillText}
+use Rattle.runs.specs.FillStream.{Gathered, lineTaken}
 use Rattle.pieces.specs.Calls.{Call, Calls, joined, lastLeft}
 use Rattle.text.specs.declared.Put.{Put}
 use Rattle.text.specs.declared.Put.the-variants.{At}

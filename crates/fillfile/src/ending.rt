@@ -1,13 +1,13 @@
 // The end of input: what the filler's library makes of the rows, and what is printed.
 use filler::Filled;
-use memory::Intake;
 use memory::Memory;
+use runs::Intake;
 use text::Put;
 ghost use mathlib.Core.Path.{_≡_};
 ghost use lib.ListN.{length};
-ghost use Rattle.memory.specs.Filler.{memoryCode};
+ghost use Rattle.runs.specs.Filler.{memoryCode};
 ghost use Rattle.memory.specs.Print.{filledText};
-ghost use Rattle.memory.specs.FillStream.{gathered};
+ghost use Rattle.runs.specs.FillStream.{gathered};
 ghost use Rattle.text.specs.Put.{putOf, written};
 ghost use Rattle.fillfile.specs.Ending.{outputRows, answerText, Ended};
 

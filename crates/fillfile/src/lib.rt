@@ -1,6 +1,6 @@
 // The filling program's library: from the bytes of its input, read in pieces, to the bytes that it prints. Section "The filler" of document 01.
 // A caller keeps one buffer for the input and one for the words of the rows: `start`, then for each block `advance`, and `finish` at the end of input.
-use memory::Intake;
+use runs::Intake;
 use text::Put;
 
 mod ending;
@@ -8,8 +8,8 @@ mod ending;
 ghost use mathlib.Core.Path.{_≡_};
 ghost use lib.ListN.{length};
 ghost use Rattle.field.specs.Field.{p};
-ghost use Rattle.memory.specs.FillFile.{fillText};
-ghost use Rattle.memory.specs.FillStream.{gathered, lineTaken};
+ghost use Rattle.runs.specs.FillFile.{fillText};
+ghost use Rattle.runs.specs.FillStream.{gathered, lineTaken};
 ghost use Rattle.pieces.specs.Calls.{Advanced};
 ghost use Rattle.text.specs.Put.{putOf, written};
 ghost use Rattle.fillfile.specs.Progress.{begun, leftBy};

@@ -7,7 +7,7 @@ use native.Mathlib.Omega.{arith}
 use mathlib.Core.Path.{_≡_, refl, sym, ap, _∙_}
 use mathlib.Core.List.{List, [], _∷_}
 use lib.ListN.{length, getD}
-use Rattle.memory.specs.Filler.{inputsIn}
+use Rattle.runs.specs.Filler.{inputsIn}
 use Rattle.index.specs.Values.{valueAt, valuesIn}
 
 four-more : (k : ℕ) → 4 * suc k + 3 ≡ suc (suc (suc (suc (4 * k + 3))))

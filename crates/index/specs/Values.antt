@@ -5,7 +5,7 @@ use mathlib.Core.Bool.{cond}
 use mathlib.Core.List.{List, [], _∷_, map}
 use lib.Dec.{eqb}
 use lib.ListN.{getD}
-use Rattle.memory.specs.Filler.{inputsIn}
+use Rattle.runs.specs.Filler.{inputsIn}
 
 -- the value of input row k, and the values of all input rows
 abbrev pub valueAt : List ℕ → ℕ → ℕ

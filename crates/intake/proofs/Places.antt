@@ -5,12 +5,12 @@ use native.Mathlib.Omega.{arith}
 use mathlib.Core.Path.{_≡_, refl}
 use mathlib.Core.List.{List}
 use borrow.Author.Tests.{eq-eqb, ne-eqb, lt-ltb, le-ltb}
-use Rattle.memory.specs.declared.Intake.{Intake}
+use Rattle.runs.specs.declared.Intake.{Intake}
 use Rattle.memory.specs.Bytes.{Line}
 use Rattle.memory.specs.Names.{fillNames, inputNames}
 use Rattle.memory.specs.File.{namesFault}
-use Rattle.memory.specs.FillFile.{parseJob}
-use Rattle.memory.specs.FillStream.{gathered, refuseOn, namesTaken, jobTaken, rowsDue, refuseRow, rowTaken, openLine, lineTaken, endFault, endTaken}
+use Rattle.runs.specs.FillFile.{parseJob}
+use Rattle.runs.specs.FillStream.{gathered, refuseOn, namesTaken, jobTaken, rowsDue, refuseRow, rowTaken, openLine, lineTaken, endFault, endTaken}
 
 module _ (q : ℕ) (i : Intake) (ws : List ℕ) (line : Line) where
   -- after a fault

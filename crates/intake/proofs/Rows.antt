@@ -6,11 +6,11 @@ use mathlib.Core.List.{List}
 use borrow.Author.Tests.{eq-eqb, ne-eqb, lt-ltb, le-ltb}
 use Rattle.field.specs.Field.{p}
 use Rattle.memory.specs.declared.Op.{Op}
-use Rattle.memory.specs.declared.Intake.{Intake}
+use Rattle.runs.specs.declared.Intake.{Intake}
 use Rattle.memory.specs.Bytes.{Line}
 use Rattle.memory.specs.Names.{opCode}
-use Rattle.memory.specs.FillFile.{InputLine, faulty, parseInput, inputLineFault}
-use Rattle.memory.specs.FillStream.{gathered, rowsDue, refuseRow, passRow, storedAt, inputTaken, rowTaken}
+use Rattle.runs.specs.FillFile.{InputLine, faulty, parseInput, inputLineFault}
+use Rattle.runs.specs.FillStream.{gathered, rowsDue, refuseRow, passRow, storedAt, inputTaken, rowTaken}
 use Rattle.intake.specs.Words.{givenRow, storedWords}
 
 module _ (o : Op) (g a v : ℕ) where

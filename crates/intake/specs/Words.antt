@@ -4,7 +4,7 @@ use Prim.Native.Nat.{ℕ, _*_}
 use mathlib.Core.List.{List, [], _∷_}
 use lib.Seq.{sets}
 use Rattle.memory.specs.declared.Op.{Op}
-use Rattle.memory.specs.FillFile.{InputLine, sound}
+use Rattle.runs.specs.FillFile.{InputLine, sound}
 
 -- a row line that reads as a row
 unfoldable pub givenRow : Op → ℕ → ℕ → ℕ → InputLine

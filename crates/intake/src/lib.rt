@@ -1,6 +1,6 @@
 // The filling program's input, line by line, from the bytes of a block to an intake and the words of its rows. Section "The filler" of document 01.
-use memory::Intake;
 use memory::numbers;
+use runs::Intake;
 
 mod line;
 
@@ -8,7 +8,7 @@ ghost use mathlib.Core.Path.{_≡_};
 ghost use Rattle.field.specs.Field.{p};
 ghost use Rattle.memory.specs.Step.{raise};
 ghost use Rattle.memory.specs.Pieces.{lastIn};
-ghost use Rattle.memory.specs.FillStream.{gathered, rowsDue, lineTaken, endTaken};
+ghost use Rattle.runs.specs.FillStream.{gathered, rowsDue, lineTaken, endTaken};
 ghost use Rattle.pieces.specs.Block.{LinesTaken};
 
 // How many rows are due.

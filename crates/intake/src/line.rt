@@ -2,18 +2,17 @@
 use super::due;
 use fill_lines::Given;
 use fill_lines::Task;
-use memory::Intake;
 use memory::Op;
 use memory::Phase;
 use memory::numbers;
 use rules::counters;
-use rules::inputs;
 use rules::ops;
+use runs::Intake;
 ghost use mathlib.Core.Path.{_≡_};
 ghost use Prim.Native.Nat.{_<_};
 ghost use Rattle.field.specs.Field.{p};
-ghost use Rattle.memory.specs.FillFile.{parseJob, inputLineFault};
-ghost use Rattle.memory.specs.FillStream.{gathered, refuseOn, namesTaken, jobTaken, refuseRow, inputTaken, rowTaken, lineTaken};
+ghost use Rattle.runs.specs.FillFile.{parseJob, inputLineFault};
+ghost use Rattle.runs.specs.FillStream.{gathered, refuseOn, namesTaken, jobTaken, refuseRow, inputTaken, rowTaken, lineTaken};
 ghost use Rattle.intake.specs.Words.{storedWords, givenRow};
 ghost use Rattle.intake.specs.Faults.{taskFault, givenFault};
 

@@ -16,7 +16,7 @@ use mathlib.Core.List.{List, [], _∷_, _++_, append-assoc, append-nil}
 use lib.ListN.{length, take, drop, length-append, length-drop, take-append-drop, drop-of-length-le}
 use lib.Seq.{sets, sets-eq, length-take-le, take-all, take-at, drop-append-add, drop-drop}
 use Rattle.memory.specs.declared.Row.{Row}
-use Rattle.memory.specs.Filler.{rowNumbers}
+use Rattle.runs.specs.Filler.{rowNumbers}
 use Rattle.layout.specs.Laid.{laid}
 
 rows-length : (rows : List Row) → length (rowNumbers rows) ≡ 7 * length rows

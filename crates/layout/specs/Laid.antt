@@ -4,7 +4,7 @@ use Prim.Native.Nat.{ℕ, _+_}
 use mathlib.Core.List.{List, _++_}
 use lib.ListN.{length, take, drop}
 use Rattle.memory.specs.declared.Row.{Row}
-use Rattle.memory.specs.Filler.{rowNumbers}
+use Rattle.runs.specs.Filler.{rowNumbers}
 
 -- the output with rows written from word a on
 unfoldable pub laid : List ℕ → ℕ → List Row → List ℕ

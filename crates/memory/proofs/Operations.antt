@@ -15,53 +15,33 @@ use Rattle.memory.specs.declared.Op.the-variants.{Init, Access, Look, Me
 use Rattle.memory.specs.declared.Phase.{Phase}
 use Rattle.memory.specs.declared.Phase.the-variants.{Starting, Operating, Ending, Ranging, Over}
 use Rattle.memory.specs.declared.Row.{Row}
-use Rattle.memory.specs.Names.{opCode, isOp}
+use Rattle.memory.specs.Names.{opCode, opCoded, isOp}
 use Rattle.memory.specs.Rows.{opsDue, opIn}
-use Rattle.memory.specs.Honest.{Input}
 
 -- each row's op is due among the operations of the memory, and its guard is 0 or 1
 abbrev pub Ops : Memory → List Row → Type 0
 Ops m [] = Unit {0}
 Ops m (row ∷ rows) = (opIn (row .op) (opsDue m Operating) ≡ true) × (leb (row .guard) 1 ≡ true) × Ops m rows
 
--- the same of the filler's input
-abbrev pub Inputs : Memory → List Input → Type 0
-Inputs m [] = Unit {0}
-Inputs m (i ∷ is) = (opIn (i .op) (opsDue m Operating) ≡ true) × (leb (i .guard) 1 ≡ true) × Inputs m is
-
--- the op that a number stands for
-opOfCode : ℕ → Op
-opOfCode zero = Init
-opOfCode (suc zero) = Access
-opOfCode (suc (suc zero)) = Look
-opOfCode (suc (suc (suc zero))) = Member
-opOfCode (suc (suc (suc (suc zero)))) = Push
-opOfCode (suc (suc (suc (suc (suc zero))))) = Pop
-opOfCode (suc (suc (suc (suc (suc (suc zero)))))) = Enqueue
-opOfCode (suc (suc (suc (suc (suc (suc (suc zero))))))) = Dequeue
-opOfCode (suc (suc (suc (suc (suc (suc (suc (suc zero)))))))) = End
-opOfCode (suc (suc (suc (suc (suc (suc (suc (suc (suc zero))))))))) = Range
-opOfCode (suc (suc (suc (suc (suc (suc (suc (suc (suc (suc n)))))))))) = Other
-
--- and back
-op-of-code : (o : Op) → opOfCode (opCode o) ≡ o
-unfolding opOfCode opCode
-op-of-code Init = refl
-op-of-code Access = refl
-op-of-code Look = refl
-op-of-code Member = refl
-op-of-code Push = refl
-op-of-code Pop = refl
-op-of-code Enqueue = refl
-op-of-code Dequeue = refl
-op-of-code End = refl
-op-of-code Range = refl
-op-of-code Other = refl
+-- the op that an op's number stands for
+pub op-coded : (o : Op) → opCoded (opCode o) ≡ o
+unfolding opCoded opCode
+op-coded Init = refl
+op-coded Access = refl
+op-coded Look = refl
+op-coded Member = refl
+op-coded Push = refl
+op-coded Pop = refl
+op-coded Enqueue = refl
+op-coded Dequeue = refl
+op-coded End = refl
+op-coded Range = refl
+op-coded Other = refl
 
 -- ops that pass the test are equal
 pub isOp-true : (x y : Op) → isOp x y ≡ true → x ≡ y
 unfolding isOp
-isOp-true x y e = sym (op-of-code x) ∙ (ap opOfCode (eqb-true (opCode x) (opCode y) e) ∙ op-of-code y)
+isOp-true x y e = sym (op-coded x) ∙ (ap opCoded (eqb-true (opCode x) (opCode y) e) ∙ op-coded y)
 
 -- an op that is among some is none that is not
 pub not-among : (os : List Op) (x y : Op) → opIn y os ≡ false → opIn x os ≡ true → isOp x y ≡ false
@@ -117,14 +97,3 @@ pub row-cases :
     → opIn (row .op) (x ∷ y ∷ []) ≡ true → leb (row .guard) 1 ≡ true → P row
 unfolding rowAt
 row-cases P x y row x1 x0 y1 y0 = op-cases (λ o g. P (rowAt o g row)) x y x1 x0 y1 y0 (row .op) (row .guard)
-
--- an input with the given op and guard, and the other columns of an input
-unfoldable pub inputAt : Op → ℕ → Input → Input
-inputAt o g i = record { op = o; guard = g; addr = i .addr; value = i .value }
-
--- a statement about an input, by the four cases
-pub input-cases :
-    (P : Input → Type 0) (x y : Op) (i : Input) → P (inputAt x 1 i) → P (inputAt x 0 i) → P (inputAt y 1 i) → P (inputAt y 0 i)
-    → opIn (i .op) (x ∷ y ∷ []) ≡ true → leb (i .guard) 1 ≡ true → P i
-unfolding inputAt
-input-cases P x y i x1 x0 y1 y0 = op-cases (λ o g. P (inputAt o g i)) x y x1 x0 y1 y0 (i .op) (i .guard)

@@ -6,8 +6,6 @@ use Rattle.memory.proofs.Sight.{fault-by-form}
 use Rattle.memory.proofs.Gates.{gates-by-formula}
 use Rattle.memory.proofs.Factors.{factors-counted, choices-counted, hashes-counted, depths-counted}
 use Rattle.memory.proofs.Stream.{stream-is-file}
-use Rattle.memory.proofs.FillStream.{fill-stream-is-text}
-use Rattle.memory.proofs.FillLength.{fill-text-short}
 use Rattle.memory.proofs.Cases.{cases-hold, counted-challenge, ram-products}
 
 pub promises : Promises
@@ -24,8 +22,6 @@ promises = record {
   hashes = hashes-counted;
   depths = depths-counted;
   streamIsFile = stream-is-file;
-  fillText = fill-stream-is-text;
-  short = fill-text-short;
   cases = cases-hold;
   counted = counted-challenge;
   products = ram-products;

@@ -1,25 +1,21 @@
--- Section "The bound on challenges" of document 01: when a challenge accepts, what is malformed, m, and when the advice is the filler's.
+-- Section "The bound on challenges" of document 01: when a challenge accepts, what is malformed, and m. When the advice is the filler's is said in crate runs.
 -- Assumes nothing.
-use Prim.Native.Nat.{ℕ, _+_, _*_, _≤_, max}
-use mathlib.Core.Path.{_≡_}
+use Prim.Native.Nat.{ℕ, _+_, max}
 use mathlib.Core.Bool.{Bool, _&&_, _||_, not}
-use mathlib.Core.List.{List, [], _∷_, map}
+use mathlib.Core.List.{List, [], _∷_}
 use lib.Dec.{eqb, leb}
-use lib.ListN.{length, take}
+use lib.ListN.{length}
 use Rattle.algebra.specs.Sum.{sum, bit}
 use Rattle.memory.specs.declared.Memory.{Memory}
 use Rattle.memory.specs.declared.Memory.the-variants.{Ram, Rom, Set, Stack, Queue}
 use Rattle.memory.specs.declared.Row.{Row}
 use Rattle.memory.specs.declared.Challenge.{Challenge}
 use Rattle.memory.specs.Bytes.{Line, allBelow}
-use Rattle.memory.specs.Rows.{allowed, operationRows, rowFields}
+use Rattle.memory.specs.Rows.{allowed, operationRows}
 use Rattle.memory.specs.Equations.{enqueues}
 use Rattle.memory.specs.Gates.{takes}
 use Rattle.memory.specs.File.{firstFault, rowsOf, parseRows}
-use Rattle.memory.specs.Plain.{Trace, traceOf}
-use Rattle.memory.specs.Honest.{inputOf}
 use Rattle.memory.specs.Step.{freshOf, runOf, endOf, reportOf}
-use Rattle.memory.specs.Filler.{Filling, fillOf, memoryCode, room, inputNumbers, rowNumbers}
 
 -- the challenge of four elements
 unfoldable pub challenge : ℕ → ℕ → ℕ → ℕ → Challenge
@@ -51,23 +47,6 @@ degree Ram n t rows = t + max n t
 degree Stack n t rows = t + takes (operationRows n t rows)
 degree Queue n t rows = length (enqueues (operationRows n t rows))
 
--- the rows of a list of lines, and their trace
+-- the rows of a list of lines
 unfoldable pub rowsIn : ℕ → List Line → List Row
 rowsIn q lines = rowsOf (parseRows q lines)
-
-unfoldable pub traceIn : ℕ → Memory → ℕ → ℕ → List Line → Trace
-traceIn q m n t lines = traceOf m n t (rowsIn q lines)
-
--- what the filler leaves for the init rows and operations of a list of rows
-unfoldable pub fillingFor : ℕ → Memory → ℕ → ℕ → List Row → List ℕ → List ℕ → Filling
-fillingFor q m n t rows output scratch = fillOf q (memoryCode m) n t (inputNumbers (map inputOf (take (n + t) rows))) output scratch
-
--- "The advice is the filler's if the rows are those that the filler, given its room, writes for the same init rows and operations."
-pub record Advised (q : ℕ) (m : Memory) (n t : ℕ) (rows : List Row) : Type 0 where
-  pub output : List ℕ
-  pub scratch : List ℕ
-  pub outputRoom : rowFields * room n t ≤ length output
-  pub scratchRoom : room n t ≤ length scratch
-  pub filled : fillingFor q m n t rows output scratch .answer ≡ 0
-  pub counted : fillingFor q m n t rows output scratch .count ≡ length rows
-  pub written : take (rowFields * length rows) (fillingFor q m n t rows output scratch .output) ≡ rowNumbers rows

@@ -1,4 +1,4 @@
--- The cases of document 01 that it marks P: files and what is printed for each.
+-- The cases of document 01 that it marks P, and a rom: files and what is printed for each.
 -- Assumes nothing.
 use Prim.Native.Nat.{ℕ}
 use Prim.Native.String.{String}
@@ -54,6 +54,8 @@ cases =
     ∷ case "memory,size,count,r,a,b,c\nset,1,1,100,1,2,3\nop,guard,addr,value,old,time,version\ninit,0,0,5,0,0,0\nmember,0,0,5,0,0,0\nend,0,0,5,0,0,1\n" "0,0,2,4"
     -- set {5}: member 6 at version 0, end value 5 version 0
     ∷ case "memory,size,count,r,a,b,c\nset,1,1,100,1,2,3\nop,guard,addr,value,old,time,version\ninit,0,0,5,0,0,0\nmember,0,0,6,0,0,0\nend,0,0,5,0,0,0\n" "10,6,0,0"
+    -- rom of 5 and 9, of which document 01 has no case: looks at cell 1, at versions 0 and 1
+    ∷ case "memory,size,count,r,a,b,c\nrom,2,2,100,1,2,3\nop,guard,addr,value,old,time,version\ninit,0,0,5,0,0,0\ninit,0,0,9,0,0,0\nlook,0,1,0,9,0,0\nlook,0,1,0,9,0,1\nend,0,0,5,0,0,0\nend,0,0,9,0,0,2\n" "0,0,6,8"
     -- ram, size 0, count 0
     ∷ case "memory,size,count,r,a,b,c\nram,0,0,100,1,2,3\nop,guard,addr,value,old,time,version\n" "0,0,0,0"
     -- count 65,536 is read: the first row is missing

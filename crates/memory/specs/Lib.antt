@@ -4,17 +4,12 @@ pub mod Names
 pub mod Rows
 pub mod Equations
 pub mod Gates
-pub mod Plain
-pub mod Honest
 pub mod File
 pub mod Step
-pub mod Filler
 pub mod Pieces
-pub mod FillStream
 pub mod Bound
 pub mod Statements
 pub mod Print
 pub mod Stream
-pub mod FillFile
 pub mod Cases
 pub mod Promises

@@ -80,5 +80,19 @@ opCode End = 8
 opCode Range = 9
 opCode Other = 10
 
+-- the op that a number stands for
+unfoldable pub opCoded : ℕ → Op
+opCoded k =
+    cond (eqb k 0) Init
+    (cond (eqb k 1) Access
+    (cond (eqb k 2) Look
+    (cond (eqb k 3) Member
+    (cond (eqb k 4) Push
+    (cond (eqb k 5) Pop
+    (cond (eqb k 6) Enqueue
+    (cond (eqb k 7) Dequeue
+    (cond (eqb k 8) End
+    (cond (eqb k 9) Range Other)))))))))
+
 unfoldable pub isOp : Op → Op → Bool
 isOp x y = eqb (opCode x) (opCode y)

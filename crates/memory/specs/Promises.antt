@@ -1,6 +1,6 @@
 -- Every statement of this crate, as the fields of one record: a proof of it is a proof of each. (Promises: promises)
 -- Assumes nothing.
-use Rattle.memory.specs.Statements.{FoldIsFile, RunIsFile, FaultByForm, FixedState, EndedState, AcceptsExactlyWhen, GatesByFormula, FactorsCounted, ChoicesCounted, HashesCounted, DepthsCounted, StreamIsFile, FillStreamIsText, FillTextShort}
+use Rattle.memory.specs.Statements.{FoldIsFile, RunIsFile, FaultByForm, FixedState, EndedState, AcceptsExactlyWhen, GatesByFormula, FactorsCounted, ChoicesCounted, HashesCounted, DepthsCounted, StreamIsFile}
 use Rattle.memory.specs.Cases.{CasesHold, CountedChallenge, RamProducts}
 
 pub record Promises : Type 0 where
@@ -16,8 +16,6 @@ pub record Promises : Type 0 where
   pub hashes : HashesCounted
   pub depths : DepthsCounted
   pub streamIsFile : StreamIsFile
-  pub fillText : FillStreamIsText
-  pub short : FillTextShort
   pub cases : CasesHold
   pub counted : CountedChallenge
   pub products : RamProducts

@@ -1,6 +1,6 @@
 -- What is shown of the definitions. proofs/ has a proof of each, under the name that the comment gives.
 -- Assumes nothing.
-use Prim.Native.Nat.{ℕ, _+_, _-_, _*_, _≤_}
+use Prim.Native.Nat.{ℕ, _+_, _-_, _≤_}
 use mathlib.Core.Path.{_≡_}
 use mathlib.Core.Logic.{_↔_}
 use mathlib.Core.Bool.{true, false}
@@ -17,13 +17,11 @@ use Rattle.memory.specs.Bytes.{Line}
 use Rattle.memory.specs.Rows.{allowed, raised, lowered, rangesDue, formed, rowBelow, lineFault}
 use Rattle.memory.specs.Equations.{fileLists, rangeBalances, memoryBalances}
 use Rattle.memory.specs.Gates.{inputsOf, multsOf, factorsOf, choicesOf, hashesOf, depthsOf, guarded, skippedWith, rowsWith, inputsFormula, multsFormula, puts, takes}
-use Rattle.memory.specs.File.{firstFault, refusal, parseRows, valuesFault, valuesReport, fileReport}
+use Rattle.memory.specs.File.{firstFault, parseRows, valuesFault, valuesReport, fileReport}
 use Rattle.memory.specs.Step.{takesRows, stepOf, endOf, stepsOf, runOf, freshOf, reportOf}
-use Rattle.memory.specs.FillFile.{fillLimit, fillText}
 use Rattle.memory.specs.Pieces.{bytesIn}
-use Rattle.memory.specs.FillStream.{lineTaken, unfilled, fillEnd}
 use Rattle.memory.specs.Stream.{lineOf, unread, finishOf}
-use Rattle.memory.specs.Bound.{elements, accepts, rowsIn}
+use Rattle.memory.specs.Bound.{accepts, rowsIn}
 
 -- "Rows then come one call at a time, refused ones included, and last the end of file": the value line's fresh state, advanced by any list of parsed rows, also
 -- of such as no line reads as, and then ended, answers what the whole-file definition says: answer, line, inputs, multiplications. (Fold: fold-is-file)
@@ -105,13 +103,3 @@ DepthsCounted = (m : Memory) (rows : List Row) → depthsOf m rows ≡ rowsWith 
 -- A file read byte by byte, up to its end, gives what `check` prints for it. (Stream: stream-is-file)
 abbrev pub StreamIsFile : Type 0
 StreamIsFile = (q : ℕ) (bytes : List ℕ) → 2 ≤ q → finishOf q (bytesIn (lineOf q) unread bytes) ≡ fileReport q bytes
-
--- The filling program's input read byte by byte, up to its end, with words for as many rows as may be due, gives what the program prints. (FillStream: fill-stream-is-text)
-abbrev pub FillStreamIsText : Type 0
-FillStreamIsText =
-    (q : ℕ) (bytes words : List ℕ) → 4 * (fillLimit + fillLimit) ≤ length words
-    → fillEnd q (bytesIn (lineTaken q) (unfilled words) bytes) ≡ fillText q bytes
-
--- What the filling program prints has at most 85,797 bytes: a names line of 37, and 134 for each of 640 rows. (FillLength: fill-text-short)
-abbrev pub FillTextShort : Type 0
-FillTextShort = (q : ℕ) (bytes : List ℕ) → length (fillText q bytes) ≤ 85797

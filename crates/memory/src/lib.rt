@@ -111,18 +111,3 @@ pub struct Stand {
     pub place: u32,
     pub state: State,
 }
-
-// What the lines of the filling program's input leave.
-pub struct Intake {
-    // the number of the next line, 4 for all rows
-    pub place: u32,
-    // the value line's
-    pub memory: Memory,
-    pub size: u32,
-    pub count: u32,
-    // rows passed
-    pub passed: u32,
-    // the first fault and its line; 0 and 0 where there is none
-    pub answer: u32,
-    pub line: u32,
-}

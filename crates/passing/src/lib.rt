@@ -7,7 +7,6 @@ use memory::Row;
 use memory::numbers;
 use rules::columns;
 use rules::counters;
-use rules::due;
 use rules::ops;
 ghost use mathlib.Core.Path.{_≡_};
 ghost use mathlib.Core.Bool.{_&&_};

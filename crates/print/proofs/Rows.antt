@@ -1,31 +1,15 @@
 -- A slice that holds the numbers of rows holds those rows: what `filled_row` prints of the filler's output.
 -- Assumes nothing.
-use mathlib.Core.Path.{_≡_, refl, ap, _∙_}
+use mathlib.Core.Path.{_≡_, ap, _∙_}
 use mathlib.Core.List.{List, [], _∷_, _++_}
 use Prim.Native.Nat.{ℕ, zero, suc, _+_, _*_, _<_}
 use native.Mathlib.Omega.{arith}
 use lib.ListN.{length, getD}
-use Rattle.memory.specs.declared.Op.{Op}
-use Rattle.memory.specs.declared.Op.the-variants.{Init, Access, Look, Member, Push, Pop, Enqueue, Dequeue, End, Range, Other}
 use Rattle.memory.specs.declared.Row.{Row}
 use Rattle.memory.specs.Names.{opCode}
-use Rattle.memory.specs.Filler.{opCoded, rowNumbers}
+use Rattle.memory.proofs.Operations.{op-coded}
+use Rattle.runs.specs.Filler.{rowNumbers}
 use Rattle.print.specs.Rows.{cellIn, rowIn}
-
--- an op's number is that op's
-op-coded-back : (o : Op) → opCoded (opCode o) ≡ o
-unfolding opCoded opCode
-op-coded-back Init = refl
-op-coded-back Access = refl
-op-coded-back Look = refl
-op-coded-back Member = refl
-op-coded-back Push = refl
-op-coded-back Pop = refl
-op-coded-back Enqueue = refl
-op-coded-back Dequeue = refl
-op-coded-back End = refl
-op-coded-back Range = refl
-op-coded-back Other = refl
 
 -- a row later, 7 numbers on
 cell-later : (o g a v d t n : ℕ) (rest : List ℕ) (k column : ℕ)
@@ -44,7 +28,7 @@ pub row-in-numbers : (rows : List Row) (rest : List ℕ) (k : ℕ) (other : Row)
     → rowIn (rowNumbers rows ++ rest) k ≡ getD rows k other
 unfolding rowNumbers rowIn cellIn
 row-in-numbers [] rest k other h = absurd (omega arith)
-row-in-numbers (row ∷ rows) rest zero other h = simp (op-coded-back (row .op))
+row-in-numbers (row ∷ rows) rest zero other h = simp (op-coded (row .op))
 row-in-numbers (row ∷ rows) rest (suc k) other h =
     row-later (opCode (row .op)) (row .guard) (row .addr) (row .value) (row .old) (row .time) (row .version) (rowNumbers rows ++ rest) k
     ∙ row-in-numbers rows rest k other (omega arith)

@@ -5,7 +5,7 @@ use mathlib.Core.List.{List, [], _∷_, _++_}
 use lib.ListN.{getD}
 use Rattle.memory.specs.declared.Row.{Row}
 use Rattle.memory.specs.Bytes.{comma, feed}
-use Rattle.memory.specs.Filler.{opCoded}
+use Rattle.memory.specs.Names.{opCoded}
 use Rattle.memory.specs.Print.{numberText}
 
 -- numbers with a comma before each, and a line feed

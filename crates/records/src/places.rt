@@ -1,6 +1,5 @@
 // The place of an end row or a range row among its like.
 use memory::Context;
-use rules::due;
 ghost use mathlib.Core.Path.{_≡_};
 ghost use Rattle.memory.specs.Step.{endPlace, rangePlace};
 

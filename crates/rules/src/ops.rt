@@ -1,8 +1,7 @@
 // The ops of document 01, told apart by their numbers.
 use memory::Op;
 ghost use mathlib.Core.Path.{_≡_};
-ghost use Rattle.memory.specs.Names.{opCode, isOp};
-ghost use Rattle.memory.specs.Filler.{opCoded};
+ghost use Rattle.memory.specs.Names.{opCode, isOp, opCoded};
 
 // The number of an op in the slices of the filler's library.
 pub fn code(op: Op) -> u32

@@ -1,7 +1,7 @@
 -- `fill_lines::allowed` meets its contract.
 -- Assumes nothing.
 use borrow.Author.Needs.{needs}
-use Rattle.memory.specs.FillFile.{fillLimit, fillAllowed}
+use Rattle.runs.specs.FillFile.{fillLimit, fillAllowed}
 use Rattle.fill_lines.proofs.allowed.Statement.{statement}
 use Rattle.fill_lines.proofs.allowed.Tie as tie
 

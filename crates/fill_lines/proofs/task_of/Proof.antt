@@ -4,7 +4,7 @@ use mathlib.Core.Path.{_≡_, sym, ap₂, _∙_}
 use lib.ListN.{getD}
 use borrow.Author.Needs.{needs}
 use borrow.Author.Tests.{not-true, not-false}
-use Rattle.memory.specs.FillFile.{fillAllowed, jobOf}
+use Rattle.runs.specs.FillFile.{fillAllowed, jobOf}
 use Rattle.keys.specs.Keys.{knownOf}
 use Rattle.lines.proofs.Parse.{element-whole}
 use Rattle.fill_lines.specs.Answers.{taskOf}

@@ -7,8 +7,8 @@ use mathlib.Core.List.{List, [], _∷_, map}
 use borrow.Author.Needs.{needs}
 use lib.ListN.{length, drop, drop-of-length-le}
 use lib.Seq.{sets}
-use Rattle.memory.specs.Honest.{Input, bare}
-use Rattle.memory.specs.Filler.{inputsIn}
+use Rattle.runs.specs.Honest.{Input, bare}
+use Rattle.runs.specs.Filler.{inputsIn}
 use Rattle.words.specs.declared.Input as words
 use Rattle.layout.specs.Laid.{laid}
 use Rattle.filler.proofs.Inputs.{inputs-count}

@@ -5,7 +5,7 @@ use native.Mathlib.Omega.{arith}
 use mathlib.Core.Path.{sym, ap, _∙_}
 use lib.ListN.{replicate, length-drop}
 use Rattle.field.specs.Field.{p}
-use Rattle.memory.specs.Filler.{inputsIn, room}
+use Rattle.runs.specs.Filler.{inputsIn, room}
 use Rattle.index.specs.Values.{valuesIn}
 use Rattle.filler.proofs.Inputs.{inputs-count, values-count}
 use Rattle.filler.proofs.FirstFault.{clean-inits, clean-operations}

@@ -1,7 +1,7 @@
 -- `filler::memory_of` meets its contract.
 -- Assumes nothing.
 use borrow.Author.Tests.{ne-eqb}
-use Rattle.memory.specs.Filler.{memoryCoded}
+use Rattle.runs.specs.Filler.{memoryCoded}
 use Rattle.filler.specs.Answer.{knownOf}
 use Rattle.filler.proofs.memory_of.Statement.{statement}
 use Rattle.filler.proofs.memory_of.Tie as tie

@@ -2,7 +2,7 @@
 -- Assumes nothing.
 use mathlib.Core.Path.{sym, _∙_}
 use borrow.Author.Tests.{not-true, not-false, eq-eqb, ne-eqb, le-leb, lt-leb}
-use Rattle.memory.specs.Filler.{room}
+use Rattle.runs.specs.Filler.{room}
 use Rattle.filler.specs.Answer.{awayBy}
 use borrow.Author.Needs.{needs}
 use Rattle.filler.proofs.turned_away.Statement.{statement}

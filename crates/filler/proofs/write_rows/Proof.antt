@@ -5,8 +5,8 @@ use native.Mathlib.Omega.{arith}
 use mathlib.Core.List.{map}
 use mathlib.Core.Path.{_≡_, ap, _∙_}
 use lib.ListN.{length, replicate, length-append, length-map, length-drop}
-use Rattle.memory.specs.Honest.{bare, filledRows, operationsFilled}
-use Rattle.memory.specs.Filler.{inputsIn}
+use Rattle.runs.specs.Honest.{bare, filledRows, operationsFilled}
+use Rattle.runs.specs.Filler.{inputsIn}
 use Rattle.index.specs.Values.{valuesIn}
 use Rattle.filler.proofs.Inputs.{inputs-count}
 use Rattle.layout.proofs.Laid.{laid-handed-on, part-lent}

@@ -3,8 +3,8 @@
 use native.Mathlib.Omega.{arith}
 use lib.ListN.{length-take}
 use Rattle.field.specs.Field.{p}
-use Rattle.memory.specs.FillStream.{gathered, lineTaken}
-use Rattle.memory.proofs.FillStream.{cut-line}
+use Rattle.runs.specs.FillStream.{gathered, lineTaken}
+use Rattle.runs.proofs.FillStream.{cut-line}
 use Rattle.pieces.proofs.Calls.{advanced}
 use Rattle.fillfile.specs.Progress.{leftBy}
 use borrow.Author.Needs.{needs}

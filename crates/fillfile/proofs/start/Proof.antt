@@ -1,7 +1,7 @@
 -- `fillfile::start` meets its contract.
 -- Assumes nothing.
 use mathlib.Core.Path.{refl}
-use Rattle.memory.specs.FillStream.{untaken}
+use Rattle.runs.specs.FillStream.{untaken}
 use Rattle.fillfile.specs.Progress.{begun}
 use Rattle.fillfile.proofs.start.Statement.{statement}
 use Rattle.fillfile.proofs.start.Tie as tie

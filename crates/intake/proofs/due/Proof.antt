@@ -1,7 +1,7 @@
 -- `intake::due` meets its contract.
 -- Assumes nothing.
 use mathlib.Core.Path.{refl}
-use Rattle.memory.specs.FillStream.{rowsDue}
+use Rattle.runs.specs.FillStream.{rowsDue}
 use borrow.Author.Needs.{needs}
 use Rattle.intake.proofs.due.Statement.{statement}
 use Rattle.intake.proofs.due.Tie as tie

@@ -2,7 +2,7 @@
 -- Assumes nothing.
 use mathlib.Core.Path.{_∙_}
 use Rattle.field.specs.Field.{p}
-use Rattle.memory.specs.FillStream.{lineTaken}
+use Rattle.runs.specs.FillStream.{lineTaken}
 use Rattle.pieces.proofs.Calls.{last-none, last-some}
 use borrow.Author.Needs.{needs}
 use Rattle.intake.proofs.last.Statement.{statement}

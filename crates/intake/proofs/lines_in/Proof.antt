@@ -7,8 +7,8 @@ use mathlib.Core.List.{[]}
 use lib.ListN.{length, take, drop, length-drop}
 use Rattle.field.specs.Field.{p}
 use Rattle.memory.specs.Pieces.{piece, bytesIn}
-use Rattle.memory.specs.FillStream.{gathered, lineTaken}
-use Rattle.memory.proofs.FillStream.{cut-line}
+use Rattle.runs.specs.FillStream.{gathered, lineTaken}
+use Rattle.runs.proofs.FillStream.{cut-line}
 use Rattle.pieces.specs.Block.{untilFeed}
 use Rattle.pieces.proofs.Feeds.{feed-within, lines-more}
 use Rattle.intake.proofs.lines_in.Statement.{statement}

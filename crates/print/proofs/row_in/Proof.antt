@@ -2,7 +2,7 @@
 -- Assumes nothing.
 use mathlib.Core.Path.{ap, _∙_}
 use borrow.Author.Needs.{needs}
-use Rattle.memory.specs.Filler.{opCoded}
+use Rattle.memory.specs.Names.{opCoded}
 use Rattle.print.specs.Rows.{rowIn}
 use Rattle.print.proofs.row_in.Statement.{statement}
 use Rattle.print.proofs.row_in.Tie as tie

@@ -4,7 +4,7 @@ use Prim.Native.Nat.{_+_}
 use mathlib.Core.Path.{_≡_, sym, ap, _∙_}
 use borrow.Author.Tests.{eq-eqb, ne-eqb}
 use Rattle.field.specs.Field.{p}
-use Rattle.memory.specs.Filler.{inputsIn, rowsFault, Placed}
+use Rattle.runs.specs.Filler.{inputsIn, rowsFault, Placed}
 use Rattle.index.specs.Values.{valuesIn}
 use Rattle.filler.specs.Scan.{scanned, initsScanned}
 use Rattle.filler.proofs.Inputs.{inputs-count, values-count}

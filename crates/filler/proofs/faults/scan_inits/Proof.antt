@@ -8,7 +8,7 @@ use lib.ListN.{drop, drop-of-length-le}
 use borrow.Author.Needs.{needs}
 use borrow.Author.Tests.{eq-eqb, ne-eqb}
 use Rattle.field.specs.Field.{p}
-use Rattle.memory.specs.Filler.{inputsIn, Placed, placed}
+use Rattle.runs.specs.Filler.{inputsIn, Placed, placed}
 use Rattle.filler.specs.Scan.{initFault, initsScanned}
 use Rattle.filler.proofs.Inputs.{inputs-count}
 use Rattle.filler.proofs.Scanned.{read-is, inits-turn}

@@ -11,7 +11,7 @@ use lib.ListN.{drop, drop-of-length-le}
 use borrow.Author.Needs.{needs}
 use borrow.Author.Tests.{eq-eqb, ne-eqb}
 use Rattle.field.specs.Field.{p}
-use Rattle.memory.specs.Filler.{inputsIn, Placed, placed}
+use Rattle.runs.specs.Filler.{inputsIn, Placed, placed}
 use Rattle.index.specs.Values.{valuesIn}
 use Rattle.memory.specs.Rows.{limit}
 use Rattle.words.specs.declared.Input as words

@@ -1,6 +1,6 @@
 -- `fillfile::ending::code` meets its contract: in each arm the variant is known, and the definition computes.
 -- Assumes nothing.
-use Rattle.memory.specs.Filler.{memoryCode}
+use Rattle.runs.specs.Filler.{memoryCode}
 use borrow.Author.Needs.{needs}
 use Rattle.fillfile.proofs.ending.code.Statement.{statement}
 use Rattle.fillfile.proofs.ending.code.Tie as tie

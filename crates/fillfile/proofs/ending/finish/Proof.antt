@@ -2,7 +2,7 @@
 -- Assumes nothing.
 use native.Mathlib.Omega.{arith}
 use lib.ListN.{length-take}
-use Rattle.memory.specs.FillStream.{rowsDue}
+use Rattle.runs.specs.FillStream.{rowsDue}
 use Rattle.fillfile.proofs.Endings.{ended-refused, ended-filled}
 use borrow.Author.Needs.{needs}
 use Rattle.fillfile.proofs.ending.finish.Statement.{statement}

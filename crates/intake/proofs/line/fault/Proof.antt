@@ -2,7 +2,7 @@
 -- Assumes nothing.
 use mathlib.Core.Logic.{⊎-elim}
 use borrow.Author.Tests.{lt-ltb, le-ltb}
-use Rattle.memory.specs.FillFile.{inputLineFault}
+use Rattle.runs.specs.FillFile.{inputLineFault}
 use Rattle.intake.specs.Words.{givenRow}
 use borrow.Author.Needs.{needs}
 use Rattle.intake.proofs.line.fault.Statement.{statement}

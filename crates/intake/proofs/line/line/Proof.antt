@@ -2,8 +2,8 @@
 -- Assumes nothing.
 use mathlib.Core.Path.{_∙_, ap}
 use Rattle.field.specs.Field.{p}
-use Rattle.memory.specs.declared.Intake.{Intake}
-use Rattle.memory.specs.FillStream.{gathered, namesTaken}
+use Rattle.runs.specs.declared.Intake.{Intake}
+use Rattle.runs.specs.FillStream.{gathered, namesTaken}
 use Rattle.intake.proofs.Places.{line-refused, line-one, line-two, line-three, line-row}
 use borrow.Author.Needs.{needs}
 use Rattle.intake.proofs.line.line.Statement.{statement}

@@ -1,7 +1,7 @@
 -- `intake::line::named` meets its contract.
 -- Assumes nothing.
 use borrow.Author.Tests.{eq-eqb, ne-eqb}
-use Rattle.memory.specs.FillStream.{moveTo, namesTaken}
+use Rattle.runs.specs.FillStream.{moveTo, namesTaken}
 use borrow.Author.Needs.{needs}
 use Rattle.intake.proofs.line.named.Statement.{statement}
 use Rattle.intake.proofs.line.named.Tie as tie

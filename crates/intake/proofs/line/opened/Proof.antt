@@ -2,7 +2,7 @@
 -- Assumes nothing.
 use Prim.Native.Nat.{ℕ}
 use mathlib.Core.Path.{sym, _∙_, ap}
-use Rattle.memory.specs.FillStream.{refuseOn, jobTaken}
+use Rattle.runs.specs.FillStream.{refuseOn, jobTaken}
 use Rattle.fill_lines.specs.declared.Task.{Task}
 use Rattle.fill_lines.specs.Answers.{taskOf}
 use borrow.Author.Needs.{needs}

@@ -1,7 +1,7 @@
 -- `intake::line::refuse` meets its contract.
 -- Assumes nothing.
 use mathlib.Core.Path.{refl}
-use Rattle.memory.specs.FillStream.{refuseOn}
+use Rattle.runs.specs.FillStream.{refuseOn}
 use Rattle.intake.proofs.line.refuse.Statement.{statement}
 use Rattle.intake.proofs.line.refuse.Tie as tie
 

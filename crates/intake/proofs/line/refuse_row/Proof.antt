@@ -1,7 +1,7 @@
 -- `intake::line::refuse_row` meets its contract.
 -- Assumes nothing.
 use mathlib.Core.Path.{ap, _∙_}
-use Rattle.memory.specs.FillStream.{refuseOn, refuseRow}
+use Rattle.runs.specs.FillStream.{refuseOn, refuseRow}
 use borrow.Author.Needs.{needs}
 use Rattle.intake.proofs.line.refuse_row.Statement.{statement}
 use Rattle.intake.proofs.line.refuse_row.Tie as tie

@@ -2,8 +2,8 @@
 -- Assumes nothing.
 use mathlib.Core.Path.{sym, _∙_, ap}
 use native.Mathlib.Omega.{arith}
-use Rattle.memory.specs.declared.Intake.{Intake}
-use Rattle.memory.specs.FillStream.{gathered, refuseRow}
+use Rattle.runs.specs.declared.Intake.{Intake}
+use Rattle.runs.specs.FillStream.{gathered, refuseRow}
 use Rattle.fill_lines.specs.Answers.{givenOf}
 use Rattle.intake.specs.Words.{givenRow}
 use Rattle.intake.specs.Faults.{givenFault}

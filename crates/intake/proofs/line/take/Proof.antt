@@ -2,8 +2,8 @@
 -- Assumes nothing.
 use mathlib.Core.Path.{_∙_, ap}
 use Prim.Native.Nat.{ℕ}
-use Rattle.memory.specs.declared.Intake.{Intake}
-use Rattle.memory.specs.FillStream.{gathered, passRow}
+use Rattle.runs.specs.declared.Intake.{Intake}
+use Rattle.runs.specs.FillStream.{gathered, passRow}
 use Rattle.intake.specs.Words.{storedWords}
 use Rattle.intake.proofs.Rows.{input-refused, input-stored}
 use borrow.Author.Needs.{needs}

@@ -1,7 +1,7 @@
 -- `rules::ops::coded` meets its contract: each arm is the op of its number, and the last that of every other number.
 -- Assumes nothing.
 use borrow.Author.Tests.{ne-eqb}
-use Rattle.memory.specs.Filler.{opCoded}
+use Rattle.memory.specs.Names.{opCoded}
 use Rattle.rules.proofs.ops.coded.Statement.{statement}
 use Rattle.rules.proofs.ops.coded.Tie as tie
 
