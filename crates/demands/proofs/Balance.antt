@@ -24,9 +24,11 @@ use Rattle.algebra.proofs.Sum.{sum-monotone, sum-scale, sums-constant}
 use Rattle.algebra.proofs.Shuffle.{shuffle-bound}
 use Rattle.algebra.proofs.Honest.{equal-products}
 use Rattle.algebra.proofs.Hash.{hash-bound}
+use Rattle.field.specs.Field.{challengesOf}
 use Rattle.memory.specs.declared.Challenge.{Challenge}
 use Rattle.memory.specs.Equations.{Triple, triple, factor, product, balanced}
 use Rattle.memory.specs.Bound.{challenge, challenges}
+use Rattle.demands.specs.Statements.{ChallengesCounted}
 
 -- a triple as a vector
 unfoldable pub entries : Triple → List ℕ
@@ -81,6 +83,11 @@ unfolding challenges
 challenges-monotone q f g h =
     sum-monotone q _ _ (λ r lr. sum-monotone q _ _ (λ a la. sum-monotone q _ _ (λ b lb. sum-monotone q _ _ (λ c lc.
     bit-implied (f (challenge r a b c)) (g (challenge r a b c)) (h (challenge r a b c))))))
+
+-- all challenges are counted
+pub challenges-counted : ChallengesCounted
+unfolding challenges challengesOf counts sums
+challenges-counted = refl
 
 -- a test that never passes is passed by no challenge
 pub challenges-none : (q : ℕ) (f : Challenge → Bool) → ((ch : Challenge) → f ch ≡ true → ⊥) → challenges q f ≡ 0

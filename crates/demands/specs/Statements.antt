@@ -7,7 +7,7 @@ use mathlib.Core.Bool.{true, false}
 use mathlib.Core.List.{List, [], _++_, map}
 use lib.ListN.{length, getD, take, drop}
 use Rattle.algebra.specs.Prime.{Prime}
-use Rattle.field.specs.Field.{p}
+use Rattle.field.specs.Field.{p, challengesOf}
 use Rattle.memory.specs.declared.Memory.{Memory}
 use Rattle.memory.specs.declared.Row.{Row}
 use Rattle.memory.specs.declared.Parsed.the-variants.{Sound}
@@ -43,6 +43,10 @@ pub record Demand (q : ℕ) (m : Memory) (n t : ℕ) (lines : List Line) : Type 
   pub honest :
       malformed q m n t lines ≡ false → right (traceIn q m n t lines) ≡ true → Advised q m n t (rowsIn q lines)
       → (ch : Challenge) → elements q ch ≡ true → accepts q m n t lines ch ≡ true
+
+-- "of the p⁴ challenges": the count runs over all of them, and is the one that the field type's constant is tied to. (Balance: challenges-counted)
+abbrev pub ChallengesCounted : Type 0
+ChallengesCounted = challenges p (λ ch. true) ≡ challengesOf
 
 -- the statement for any prime, of sizes and counts that it has room for (Demand: demand-at)
 abbrev pub DemandAt : Type 0
