@@ -1,0 +1,22 @@
+-- One read of standard input into a buffer with kept bytes at its front: what holds of the answer, and of the buffer afterwards. Free are the bytes that come, how
+-- many come of those that fit, where the input ends, whether the read fails, and what stands in the buffer behind the kept bytes.
+-- Assumes nothing.
+use Prim.Native.Nat.{ℕ, _≤_, _<_}
+use mathlib.Core.Path.{_≡_}
+use mathlib.Core.List.{List}
+use lib.ListN.{length, take}
+use Rattle.stdio.specs.declared.Read.{Read}
+use Rattle.stdio.specs.declared.Read.the-variants.{Filled, Ended, Failed}
+
+-- the answers that a buffer of `size` bytes allows: one byte or more came, and all that came stand in the buffer; the end, only where a byte had room; a failed
+-- read, always
+abbrev pub Answer : ℕ → ℕ → Read → Type 0
+Answer size kept (Filled end) = (kept < end) × (end ≤ size)
+Answer size kept Ended = kept < size
+Answer size kept Failed = Unit {0}
+
+-- the buffer is as long as it was, and its kept bytes are as they were
+pub record ReadBehind (kept : ℕ) (before after : List ℕ) (r : Read) : Type 0 where
+  pub answer : Answer (length before) kept r
+  pub size : length after ≡ length before
+  pub front : take kept after ≡ take kept before

@@ -1,0 +1,54 @@
+// Standard input, read behind the kept bytes of a lent buffer, and standard output. What fails is told on standard error. Every function is total.
+// Which bytes a read brings, and what becomes of bytes that are written, no contract can say.
+use libc::STDIN_FILENO;
+use libc::STDOUT_FILENO;
+ghost use mathlib.Core.Path.{_≡_};
+ghost use Prim.Native.Nat.{_≤_};
+ghost use lib.ListN.{length, take};
+ghost use Rattle.stdio.specs.Read.{ReadBehind};
+
+// What one read came to: the buffer is filled up to a position; or the input has ended; or the read failed.
+pub enum Read {
+    Filled(usize),
+    Ended,
+    Failed,
+}
+
+// Reads once, behind the kept bytes at the front of the buffer. A read of no bytes is the end of input. Where the buffer has no room behind the kept bytes,
+// nothing is read, and that is a failed read too.
+pub fn read_behind(buf: &mut [u8], kept: usize) -> Read
+    ensures { λ r. ⌜ ReadBehind kept (now (buf .entry)) (now (buf .exit)) r ⌝ }
+{
+    if buf.len() <= kept {
+        os::fail(b"standard input");
+        return Read::Failed;
+    }
+    let got = read_from(buf, kept);
+    if got < 0 {
+        os::fail(b"standard input");
+        return Read::Failed;
+    }
+    let n = io::count(got, &buf[kept..]);
+    if n == 0 {
+        return Read::Ended;
+    }
+    Read::Filled(kept + n)
+}
+
+// Reads once, into the buffer from a position on, and answers as the system does. What stands before the position is as it was.
+fn read_from(buf: &mut [u8], from: usize) -> isize
+    requires { ⌜ from ≤ length (now buf) ⌝ }
+    ensures { λ _. ⌜ take from (now (buf .exit)) ≡ take from (now (buf .entry)) ⌝ }
+{
+    libc::read(STDIN_FILENO, &mut buf[from..])
+}
+
+// Writes the first n bytes of a text, and nothing of a text that is shorter.
+pub fn write_first(text: &[u8], n: usize) {
+    if text.len() < n {
+        return;
+    }
+    if !io::write_all(STDOUT_FILENO, &text[..n]) {
+        os::fail(b"standard output");
+    }
+}
