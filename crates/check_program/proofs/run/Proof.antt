@@ -7,10 +7,10 @@ use Rattle.check_program.proofs.run.Statement.{statement}
 use Rattle.check_program.proofs.run.Tie as tie
 
 abbrev Inv-loop : tie.InvT-loop
-Inv-loop buf₀ progress₀ turns₀ t5 buf progress turns = length buf ≡ length buf₀
+Inv-loop buf₀ progress₀ turns₀ buf progress turns = length buf ≡ length buf₀
 
 abbrev μ-loop : tie.MeasureT-loop
-μ-loop buf₀ progress₀ turns₀ t5 buf progress turns = turns
+μ-loop buf₀ progress₀ turns₀ buf progress turns = turns
 
 start-requires : tie.Need-start-requires Inv-loop μ-loop
 start-requires c κs = search needs
@@ -18,14 +18,23 @@ start-requires c κs = search needs
 loop-holds : tie.Need-loop-holds Inv-loop μ-loop
 loop-holds c = search needs
 
-read-some-requires : tie.Need-read-some-requires Inv-loop μ-loop
-read-some-requires c κs = search needs
+read-behind-requires : tie.Need-read-behind-requires Inv-loop μ-loop
+read-behind-requires c κs = search needs
 
-slice-aggregate-fail : tie.Need-slice-aggregate-fail Inv-loop μ-loop
-slice-aggregate-fail c = search needs
+enum-known-end : tie.Need-enum-known-end Inv-loop μ-loop
+enum-known-end c = search needs
 
-fail-requires : tie.Need-fail-requires Inv-loop μ-loop
-fail-requires c κs = search needs
+advance-requires : tie.Need-advance-requires Inv-loop μ-loop
+advance-requires c κs = search needs
+
+enum-told : tie.Need-enum-told Inv-loop μ-loop
+enum-told c = search needs
+
+finish-requires : tie.Need-finish-requires Inv-loop μ-loop
+finish-requires c κs = search needs
+
+print-report-requires : tie.Need-print-report-requires Inv-loop μ-loop
+print-report-requires c κs = search needs
 
 same-length : tie.Need-same-length Inv-loop μ-loop
 same-length c = search needs
@@ -33,11 +42,8 @@ same-length c = search needs
 returns : tie.Need-returns Inv-loop μ-loop
 returns c = search needs
 
-finish-requires : tie.Need-finish-requires Inv-loop μ-loop
-finish-requires c κs = search needs
-
-print-report-requires : tie.Need-print-report-requires Inv-loop μ-loop
-print-report-requires c κs = search needs
+enum-told-2 : tie.Need-enum-told-2 Inv-loop μ-loop
+enum-told-2 c = search needs
 
 same-length-2 : tie.Need-same-length-2 Inv-loop μ-loop
 same-length-2 c = search needs
@@ -68,13 +74,15 @@ run-spec =
     μ-loop
     start-requires
     loop-holds
-    read-some-requires
-    slice-aggregate-fail
-    fail-requires
-    same-length
-    returns
+    read-behind-requires
+    enum-known-end
+    advance-requires
+    enum-told
     finish-requires
     print-report-requires
+    same-length
+    returns
+    enum-told-2
     same-length-2
     returns-2
     sub-turns
