@@ -1,11 +1,13 @@
 // The program `check`: reads standard input to its end and prints the two lines of the report. A failed read is told on standard error, with nothing on
 // standard output; so is a failed write.
 use stdio::Read;
+use stream::Progress;
+use text::Put;
 
-// Prints the two lines.
-fn print_report(report: memory::Report) {
-    let mut text = [0u8; 128];
-    let text::Put::At(end) = print::report(&mut text, 0, report) else {
+// Prints the two lines, for which the text is long enough.
+fn print_end(progress: Progress, buf: &[u8]) {
+    let mut text = [0u8; stream::TEXT];
+    let Put::At(end) = stream::print_end(progress, buf, &mut text) else {
         return;
     };
     stdio::write_first(&text, end);
@@ -20,7 +22,7 @@ fn run(buf: &mut [u8]) {
         match stdio::read_behind(buf, progress.kept) {
             Read::Filled(end) => progress = stream::advance(progress, buf, end),
             Read::Ended => {
-                print_report(stream::finish(progress, buf));
+                print_end(progress, buf);
                 return;
             }
             Read::Failed => return,
@@ -30,6 +32,6 @@ fn run(buf: &mut [u8]) {
 }
 
 fn main() {
-    let mut buf = [0u8; pieces::BUFFER];
+    let mut buf = [0u8; pieces::KEPT + stdio::BLOCK];
     run(&mut buf);
 }

@@ -40,7 +40,7 @@ fn run(buf: &mut [u8], words: &mut [u32]) {
 }
 
 fn main() {
-    let mut buf = [0u8; pieces::BUFFER];
+    let mut buf = [0u8; pieces::KEPT + stdio::BLOCK];
     let mut words = [0u32; fillfile::WORDS];
     run(&mut buf, &mut words);
 }

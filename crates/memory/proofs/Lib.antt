@@ -15,6 +15,7 @@ pub mod Gates
 pub mod Sight
 pub mod Stream
 pub mod Decimal
+pub mod ReportLength
 pub mod Factors
 pub mod Promises
 pub mod Pieces

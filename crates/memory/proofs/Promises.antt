@@ -5,6 +5,7 @@ use Rattle.memory.proofs.Fold.{fold-is-file, run-is-file, fixed-state, 
 use Rattle.memory.proofs.Sight.{fault-by-form}
 use Rattle.memory.proofs.Gates.{gates-by-formula}
 use Rattle.memory.proofs.Factors.{factors-counted, choices-counted, hashes-counted, depths-counted}
+use Rattle.memory.proofs.ReportLength.{report-short}
 use Rattle.memory.proofs.Stream.{stream-is-file}
 use Rattle.memory.proofs.Cases.{cases-hold, counted-challenge, ram-products}
 
@@ -21,6 +22,7 @@ promises = record {
   choices = choices-counted;
   hashes = hashes-counted;
   depths = depths-counted;
+  report = report-short;
   streamIsFile = stream-is-file;
   cases = cases-hold;
   counted = counted-challenge;

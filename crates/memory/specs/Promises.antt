@@ -1,6 +1,6 @@
 -- Every statement of this crate, as the fields of one record: a proof of it is a proof of each. (Promises: promises)
 -- Assumes nothing.
-use Rattle.memory.specs.Statements.{FoldIsFile, RunIsFile, FaultByForm, FixedState, EndedState, AcceptsExactlyWhen, GatesByFormula, FactorsCounted, ChoicesCounted, HashesCounted, DepthsCounted, StreamIsFile}
+use Rattle.memory.specs.Statements.{FoldIsFile, RunIsFile, FaultByForm, FixedState, EndedState, AcceptsExactlyWhen, GatesByFormula, FactorsCounted, ChoicesCounted, HashesCounted, DepthsCounted, ReportShort, StreamIsFile}
 use Rattle.memory.specs.Cases.{CasesHold, CountedChallenge, RamProducts}
 
 pub record Promises : Type 0 where
@@ -15,6 +15,7 @@ pub record Promises : Type 0 where
   pub choices : ChoicesCounted
   pub hashes : HashesCounted
   pub depths : DepthsCounted
+  pub report : ReportShort
   pub streamIsFile : StreamIsFile
   pub cases : CasesHold
   pub counted : CountedChallenge

@@ -13,12 +13,14 @@ use Rattle.memory.specs.declared.Parsed.{Parsed}
 use Rattle.memory.specs.declared.Parsed.the-variants.{Sound}
 use Rattle.memory.specs.declared.Challenge.{Challenge}
 use Rattle.memory.specs.declared.State.{State}
+use Rattle.memory.specs.declared.Report.{Report}
 use Rattle.memory.specs.Bytes.{Line}
 use Rattle.memory.specs.Rows.{allowed, raised, lowered, rangesDue, formed, rowBelow, lineFault}
 use Rattle.memory.specs.Equations.{fileLists, rangeBalances, memoryBalances}
 use Rattle.memory.specs.Gates.{inputsOf, multsOf, factorsOf, choicesOf, hashesOf, depthsOf, guarded, skippedWith, rowsWith, inputsFormula, multsFormula, puts, takes}
 use Rattle.memory.specs.File.{firstFault, parseRows, valuesFault, valuesReport, fileReport}
 use Rattle.memory.specs.Step.{takesRows, stepOf, endOf, stepsOf, runOf, freshOf, reportOf}
+use Rattle.memory.specs.Print.{reportText}
 use Rattle.memory.specs.Pieces.{bytesIn}
 use Rattle.memory.specs.Stream.{lineOf, unread, finishOf}
 use Rattle.memory.specs.Bound.{accepts, rowsIn}
@@ -99,6 +101,11 @@ ChoicesCounted = (m : Memory) (rows : List Row) → choicesOf m rows ≡ guarded
 -- "So does … each depth step": one for each dequeue, since "Each dequeue multiplies a product". (Factors: depths-counted)
 abbrev pub DepthsCounted : Type 0
 DepthsCounted = (m : Memory) (rows : List Row) → depthsOf m rows ≡ rowsWith Dequeue rows
+
+-- "It prints two lines": they have at most 109 bytes, a names line of 25, and four numbers of at most 20 digits with a comma or the line feed after each.
+-- (ReportLength: report-short)
+abbrev pub ReportShort : Type 0
+ReportShort = (r : Report) → length (reportText r) ≤ 109
 
 -- A file read byte by byte, up to its end, gives what `check` prints for it. (Stream: stream-is-file)
 abbrev pub StreamIsFile : Type 0

@@ -7,9 +7,6 @@ ghost use Rattle.pieces.specs.Block.{untilFeed, restOf, fronted};
 // As many bytes of an unfinished line are kept as show that it is too long.
 pub const KEPT: usize = fields::LONGEST + 1;
 
-// The length of a program's buffer: room for the kept bytes, and for a block of 64 KiB behind them.
-pub const BUFFER: usize = KEPT + 65536;
-
 // The byte that ends a line.
 const FEED: u8 = 10;
 

@@ -1,17 +1,21 @@
 -- One read of standard input into a buffer with kept bytes at its front: what holds of the answer, and of the buffer afterwards. Free are the bytes that come, how
 -- many come of those that fit, where the input ends, whether the read fails, and what stands in the buffer behind the kept bytes.
 -- Assumes nothing.
-use Prim.Native.Nat.{ℕ, _≤_, _<_}
+use Prim.Native.Nat.{ℕ, _+_, _≤_, _<_}
 use mathlib.Core.Path.{_≡_}
 use mathlib.Core.List.{List}
 use lib.ListN.{length, take}
 use Rattle.stdio.specs.declared.Read.{Read}
 use Rattle.stdio.specs.declared.Read.the-variants.{Filled, Ended, Failed}
 
--- the answers that a buffer of `size` bytes allows: one byte or more came, and all that came stand in the buffer; the end, only where a byte had room; a failed
--- read, always
+-- 64 KiB
+abbrev pub block : ℕ
+block = 65536
+
+-- the answers that a buffer of `size` bytes allows: one byte or more came, at most a block, and all that came stand in the buffer; the end, only where a
+-- byte had room; a failed read, always
 abbrev pub Answer : ℕ → ℕ → Read → Type 0
-Answer size kept (Filled end) = (kept < end) × (end ≤ size)
+Answer size kept (Filled end) = (kept < end) × (end ≤ size) × (end ≤ kept + block)
 Answer size kept Ended = kept < size
 Answer size kept Failed = Unit {0}
 

@@ -3,9 +3,12 @@
 use libc::STDIN_FILENO;
 use libc::STDOUT_FILENO;
 ghost use mathlib.Core.Path.{_≡_};
-ghost use Prim.Native.Nat.{_≤_};
+ghost use Prim.Native.Nat.{_+_, _≤_, _<_};
 ghost use lib.ListN.{length, take};
-ghost use Rattle.stdio.specs.Read.{ReadBehind};
+ghost use Rattle.stdio.specs.Read.{block, ReadBehind};
+
+// A program reads its input in blocks of 64 KiB.
+pub const BLOCK: usize = 65536;
 
 // What one read came to: the buffer is filled up to a position; or the input has ended; or the read failed.
 pub enum Read {
@@ -14,8 +17,8 @@ pub enum Read {
     Failed,
 }
 
-// Reads once, behind the kept bytes at the front of the buffer. A read of no bytes is the end of input. Where the buffer has no room behind the kept bytes,
-// nothing is read, and that is a failed read too.
+// Reads once, a block at most, behind the kept bytes at the front of the buffer. A read of no bytes is the end of input. Where the buffer has no room behind the kept
+// bytes, nothing is read, and that is a failed read too.
 pub fn read_behind(buf: &mut [u8], kept: usize) -> Read
     ensures { λ r. ⌜ ReadBehind kept (now (buf .entry)) (now (buf .exit)) r ⌝ }
 {
@@ -23,24 +26,37 @@ pub fn read_behind(buf: &mut [u8], kept: usize) -> Read
         os::fail(b"standard input");
         return Read::Failed;
     }
-    let got = read_from(buf, kept);
+    let end = block_end(kept, buf.len());
+    let got = read_part(buf, kept, end);
     if got < 0 {
         os::fail(b"standard input");
         return Read::Failed;
     }
-    let n = io::count(got, &buf[kept..]);
+    let n = io::count(got, &buf[kept..end]);
     if n == 0 {
         return Read::Ended;
     }
     Read::Filled(kept + n)
 }
 
-// Reads once, into the buffer from a position on, and answers as the system does. What stands before the position is as it was.
-fn read_from(buf: &mut [u8], from: usize) -> isize
-    requires { ⌜ from ≤ length (now buf) ⌝ }
+// Where a block ends that begins at a position before the end of a buffer: with the buffer, if that is first.
+fn block_end(from: usize, len: usize) -> usize
+    requires { ⌜ from < len ⌝ }
+    ensures { λ r. ⌜ (from < r) × (r ≤ len) × (r ≤ from + block) ⌝ }
+{
+    if len - from < BLOCK {
+        len
+    } else {
+        from + BLOCK
+    }
+}
+
+// Reads once, into a part of the buffer, and answers as the system does. What stands before the part is as it was.
+fn read_part(buf: &mut [u8], from: usize, end: usize) -> isize
+    requires { ⌜ (from ≤ end) × (end ≤ length (now buf)) ⌝ }
     ensures { λ _. ⌜ take from (now (buf .exit)) ≡ take from (now (buf .entry)) ⌝ }
 {
-    libc::read(STDIN_FILENO, &mut buf[from..])
+    libc::read(STDIN_FILENO, &mut buf[from..end])
 }
 
 // Writes the first n bytes of a text, and nothing of a text that is shorter.

@@ -1,16 +1,21 @@
-// A file in pieces, and whole. A caller that reads a file block by block keeps one buffer: `start`, then for each block `advance`, and `finish` at the end of input.
+// A file in pieces, and whole. A caller that reads a file block by block keeps one buffer: `start`, then for each block `advance`, and at the end of input `finish`, or `print_end` for the two lines that
+// `check` prints.
 use memory::Report;
 use memory::Stand;
 use memory::numbers;
+use text::Put;
 
 mod block;
 mod ending;
 
 ghost use mathlib.Core.Path.{_≡_};
+ghost use lib.ListN.{length};
 ghost use Rattle.field.specs.Field.{p};
 ghost use Rattle.memory.specs.File.{fileReport};
+ghost use Rattle.memory.specs.Print.{reportText};
 ghost use Rattle.memory.specs.Stream.{lineOf, finishOf};
 ghost use Rattle.pieces.specs.Calls.{standsFor, Advanced};
+ghost use Rattle.text.specs.Put.{putOf, written};
 ghost use Rattle.stream.specs.Progress.{begun, leftBy};
 
 // Between two pieces of a file: what its lines left, and how many bytes of the line that is being read stand at the front of the caller's buffer. The caller
@@ -53,7 +58,18 @@ pub fn finish(progress: Progress, buf: &[u8]) -> Report
     ending::report(progress.stand, &buf[..end])
 }
 
-// What `check` prints for a whole file.
+// The most bytes that `check` prints (memory `ReportShort`).
+pub const TEXT: usize = 109;
+
+// The end of input, in the same way: the two lines that `check` prints go into the text.
+pub fn print_end(progress: Progress, buf: &[u8], text: &mut [u8]) -> Put
+    ensures answer { λ r. ⌜ r ≡ putOf (length (now (text .entry))) 0 (reportText (finishOf p (standsFor (leftBy progress (now (buf .entry)))))) ⌝ }
+    ensures slice { λ _. ⌜ now (text .exit) ≡ written (now (text .entry)) 0 (reportText (finishOf p (standsFor (leftBy progress (now (buf .entry)))))) ⌝ }
+{
+    print::report(text, 0, finish(progress, buf))
+}
+
+// What `check` reports of a whole file.
 pub fn check_file(file: &[u8]) -> Report
     ensures { λ r. ⌜ r ≡ fileReport p (now (file .entry)) ⌝ }
 {

@@ -1,6 +1,7 @@
 -- Text put into a lent slice of bytes from a position on: the answer, and what the slice holds afterwards.
 -- Assumes nothing.
 use Prim.Native.Nat.{ℕ, _+_, _-_}
+use mathlib.Core.Path.{_≡_}
 use mathlib.Core.Bool.{cond}
 use mathlib.Core.List.{List, _++_}
 use lib.Dec.{leb}
@@ -24,3 +25,8 @@ putAfter room Full text = Full
 unfoldable pub writtenAfter : List ℕ → Put → List ℕ → List ℕ
 writtenAfter buf (At at) text = written buf at text
 writtenAfter buf Full text = buf
+
+-- a slice begins with a text, and the answer is the text's length
+pub record Printed (content printed : List ℕ) (r : Put) : Type 0 where
+  pub answer : r ≡ At (length content)
+  pub bytes : take (length content) printed ≡ content

@@ -30,11 +30,8 @@ advance-requires c κs = search needs
 enum-told : tie.Need-enum-told Inv-loop μ-loop
 enum-told c = search needs
 
-finish-requires : tie.Need-finish-requires Inv-loop μ-loop
-finish-requires c κs = search needs
-
-print-report-requires : tie.Need-print-report-requires Inv-loop μ-loop
-print-report-requires c κs = search needs
+print-end-requires : tie.Need-print-end-requires Inv-loop μ-loop
+print-end-requires c κs = search needs
 
 same-length : tie.Need-same-length Inv-loop μ-loop
 same-length c = search needs
@@ -78,8 +75,7 @@ run-spec =
     enum-known-end
     advance-requires
     enum-told
-    finish-requires
-    print-report-requires
+    print-end-requires
     same-length
     returns
     enum-told-2

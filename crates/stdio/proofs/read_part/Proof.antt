@@ -1,11 +1,11 @@
--- `stdio::read_from` meets its contract.
+-- `stdio::read_part` meets its contract.
 -- Assumes nothing.
 use Prim.Native.Nat.{_-_}
-use lib.ListN.{length}
+use native.Mathlib.Omega.{arith}
 use borrow.Rule.Slice.PartMut.{take-put}
 use borrow.Author.Needs.{needs}
-use Rattle.stdio.proofs.read_from.Statement.{statement}
-use Rattle.stdio.proofs.read_from.Tie as tie
+use Rattle.stdio.proofs.read_part.Statement.{statement}
+use Rattle.stdio.proofs.read_part.Tie as tie
 
 sub-read : tie.Need-sub-read
 sub-read c = search needs
@@ -25,8 +25,8 @@ same-length c = search needs
 returns : tie.Need-returns
 returns c = let start = c .before .before .before .before .before in
     let at = start .args in
-    take-put (at .from) (length (at .buf .now) - at .from) (at .buf .now) (c .before .before .read .last .1 .0) (start .pre)
+    take-put (at .from) (at .end - at .from) (at .buf .now) (c .before .before .read .last .1 .0) (omega (arith, start .pre))
 
-pub read-from-spec : {M : Type 1} → statement M
-read-from-spec =
+pub read-part-spec : {M : Type 1} → statement M
+read-part-spec =
     tie.close (tie.spec sub-read part-read-start part-read-end read-requires same-length returns)
