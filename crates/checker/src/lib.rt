@@ -19,7 +19,7 @@ ghost use Rattle.memory.specs.Step.{freshOf, takeParsed, stepOf, endOf, reportO
 ghost use Rattle.checker.specs.Unread.{unreadOf};
 
 // A fault of the value line stands on line 2.
-fn value_line(fault: u32) -> u32
+fn fault_line(fault: u32) -> u32
     ensures { λ r. ⌜ r ≡ cond (eqb fault 0) 0 2 ⌝ }
 {
     if fault == 0 { 0 } else { 2 }
@@ -41,7 +41,7 @@ pub fn fresh(memory: Memory, size: u32, count: u32, challenge: Challenge) -> Sta
         inputs: 0,
         mults: 0,
         answer: fault,
-        line: value_line(fault),
+        line: fault_line(fault),
         ended: false,
     };
     let products = Products {
