@@ -148,16 +148,20 @@ pub fn report(s: State) -> Report
     }
 }
 
-// "The checker's state is lent and advanced in place by a row."
-pub fn row_in_place(s: &mut State, parsed: Parsed)
-    ensures { λ _. ⌜ now (s .exit) ≡ stepOf p (now (s .entry)) parsed ⌝ }
+// "The checker's state is lent and advanced in place by a row." The answer is that of the state afterwards.
+pub fn row_in_place(s: &mut State, parsed: Parsed) -> Report
+    ensures { λ r. ⌜ (now (s .exit) ≡ stepOf p (now (s .entry)) parsed) × (r ≡ reportOf (stepOf p (now (s .entry)) parsed)) ⌝ }
 {
-    *s = step(*s, parsed);
+    let next = step(*s, parsed);
+    *s = next;
+    report(next)
 }
 
 // The end of file, of a state that is lent.
-pub fn end_in_place(s: &mut State)
-    ensures { λ _. ⌜ now (s .exit) ≡ endOf (now (s .entry)) ⌝ }
+pub fn end_in_place(s: &mut State) -> Report
+    ensures { λ r. ⌜ (now (s .exit) ≡ endOf (now (s .entry))) × (r ≡ reportOf (endOf (now (s .entry)))) ⌝ }
 {
-    *s = end(*s);
+    let next = end(*s);
+    *s = next;
+    report(next)
 }
