@@ -5,6 +5,7 @@ ghost use mathlib.Core.List.{[], _∷_};
 ghost use Prim.Native.Nat.{_*_, _≤_};
 ghost use lib.ListN.{length, getD, set, replicate};
 ghost use lib.Seq.{sets};
+ghost use Rattle.words.specs.Inputs.{wordsAt};
 
 // Every word becomes 0.
 pub fn clear(words: &mut [u32])
@@ -48,6 +49,43 @@ pub struct Input {
     pub guard: u32,
     pub addr: u32,
     pub value: u32,
+}
+
+// An input row that the slice ends in or before.
+fn cut_row(rows: &[u32], k: usize) -> Input
+    ensures { λ r. ⌜ r ≡ wordsAt (now (rows .entry)) k ⌝ }
+{
+    if rows.len() <= k {
+        return Input {
+            op: 0,
+            guard: 0,
+            addr: 0,
+            value: 0,
+        };
+    }
+    let at = 4 * k;
+    Input {
+        op: word(rows, at),
+        guard: word(rows, at + 1),
+        addr: word(rows, at + 2),
+        value: word(rows, at + 3),
+    }
+}
+
+// Reads input row k. A whole row takes one test.
+pub fn read(rows: &[u32], k: usize) -> Input
+    ensures { λ r. ⌜ r ≡ wordsAt (now (rows .entry)) k ⌝ }
+{
+    if k < rows.len() / 4 {
+        let at = 4 * k;
+        return Input {
+            op: rows[at],
+            guard: rows[at + 1],
+            addr: rows[at + 2],
+            value: rows[at + 3],
+        };
+    }
+    cut_row(rows, k)
 }
 
 // "Op, guard, addr and value are copied": the first four words of an output row, from a place on.
