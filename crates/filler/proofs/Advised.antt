@@ -13,10 +13,9 @@ use lib.Seq.{sets}
 use Rattle.memory.specs.declared.Memory.{Memory}
 use Rattle.memory.specs.declared.Memory.the-variants.{Ram, Rom, Set, Stack, Queue}
 use Rattle.words.specs.declared.Input.{Input}
-use Rattle.index.specs.Values.{valueAt}
+use Rattle.words.specs.Inputs.{valueAt, opAt, guardAt, addrAt, wordsAt}
 use Rattle.filler.specs.declared.steps.Cursor.{Cursor}
 use Rattle.filler.specs.declared.steps.Advice.{Advice}
-use Rattle.filler.specs.Words.{opAt, guardAt, addrAt, wordsAt}
 use Rattle.filler.specs.Steps.{told, counted, slotOf, popTime, ramTold, romTold, setTold, pushTold, pushed, popTold, popped, stackTold, stacked, enqueueTold, enqueued, dequeueTold, dequeued, queueTold, queued, Told, Advised, Turned, toldBy, ReadyBy, turn, advanced, Ready}
 
 pop-next : (w : ℕ) (at : Cursor) (g : ℕ) (s : List ℕ) → popTold w at g s .advice .next ≡ popped at g

@@ -12,7 +12,8 @@ use Rattle.memory.specs.Names.{opCode}
 use Rattle.runs.specs.Honest.{endRow, rangeRow}
 use Rattle.runs.specs.Filler.{rowNumbers}
 use Rattle.filler.specs.declared.steps.Cursor.{Cursor}
-use Rattle.index.specs.Values.{valuesIn, valueAt}
+use Rattle.words.specs.Inputs.{valueAt}
+use Rattle.index.specs.Values.{valuesIn}
 use Rattle.layout.specs.Laid.{laid}
 use Rattle.filler.specs.Ends.{cellEnds, valueEnds, ranges, ending, EndingFits}
 use Rattle.filler.proofs.Inputs.{values-cons, values-count}

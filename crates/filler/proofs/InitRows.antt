@@ -15,14 +15,15 @@ use borrow.Author.Tests.{eqb-true, eqb-false}
 use Rattle.field.specs.Field.{p}
 use Rattle.runs.specs.Honest.{Input, bare}
 use Rattle.runs.specs.Filler.{inputsIn, Placed, placed}
-use Rattle.index.specs.Values.{valueAt}
+use Rattle.words.specs.Inputs.{valueAt, opAt, guardAt, addrAt}
 use Rattle.layout.specs.Laid.{laid}
-use Rattle.filler.specs.Words.{opAt, guardAt, addrAt, inputAt, copied}
-use Rattle.filler.specs.Scan.{initFault, initsScanned}
-use Rattle.filler.proofs.Inputs.{inputs-cons}
+use Rattle.faults.specs.Inputs.{inputAt}
+use Rattle.filler.specs.Words.{copied}
+use Rattle.faults.specs.Scan.{initFault, initsScanned}
+use Rattle.faults.proofs.Inputs.{inputs-cons}
 use Rattle.layout.proofs.Laid.{laid-put}
 use Rattle.filler.proofs.Forms.{form-init}
-use Rattle.filler.proofs.Scanned.{inits-turn}
+use Rattle.faults.proofs.Scanned.{inits-turn}
 use Rattle.filler.proofs.Onward.{copied-words}
 
 pub record CleanInits (is : List Input) : Type 0 where

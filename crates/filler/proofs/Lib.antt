@@ -3,7 +3,6 @@ pub mod EndRows
 pub mod Members
 pub mod Tree
 pub mod Forms
-pub mod Scanned
 pub mod Onward
 pub mod Counts
 pub mod RomRun
@@ -13,7 +12,7 @@ pub mod StackRun
 pub mod SetRun
 pub mod Advised
 pub mod Progress
-pub mod FirstFault
+pub mod Clean
 pub mod InitRows
 pub mod Whole
 pub mod Tags

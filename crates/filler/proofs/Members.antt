@@ -1,34 +1,20 @@
 -- The place of the first equal element of a list.
---     among-first     an element is among a list where that place is before the end
 --     first-at        the element there is the one sought
 --     first-low       no place before it holds the element sought
---     tree-finds      a set's search tree finds that place
+--     tree-is, tree-finds     a set's search tree is the one grown over all elements, and finds that place
 -- Assumes nothing.
 use Prim.Native.Nat.{ℕ, zero, suc, _≤_, _<_}
 use native.Mathlib.Omega.{arith}
 use native.Mathlib.Decide.{ℕ-discrete}
-use mathlib.Core.Bool.{Bool, true, false, cond, _||_}
 use mathlib.Core.Path.{_≡_, sym, ap, _∙_}
 use mathlib.Core.List.{List, [], _∷_}
-use lib.Dec.{eqb, ltb, leb·suc-suc, leb·suc-zero}
 use lib.ListN.{length, getD, replicate}
-use borrow.Author.Tests.{lt-ltb}
-use Rattle.runs.specs.Plain.{among}
 use Rattle.index.specs.Values.{valuesIn, firstAt}
 use Rattle.index.specs.Tree.{found, grown}
 use Rattle.index.proofs.Places.{first-here, first-later}
 use Rattle.index.proofs.Search.{search-finds-first}
 use Rattle.filler.specs.Words.{TreeIn}
 use Rattle.filler.proofs.Inputs.{values-count}
-
-pub among-first : (x : ℕ) (ys : List ℕ) → among x ys ≡ ltb (firstAt x ys) (length ys)
-unfolding among firstAt
-among-first x [] = sym (leb·suc-zero 0)
-among-first x (y ∷ ys) = go (eqb x y) (among-first x ys)
-  where
-    go : (b : Bool) → among x ys ≡ ltb (firstAt x ys) (length ys) → (b || among x ys) ≡ ltb (cond b 0 (suc (firstAt x ys))) (suc (length ys))
-    go true ih = sym (lt-ltb 0 (suc (length ys)) (omega arith))
-    go false ih = ih ∙ sym (leb·suc-suc (suc (firstAt x ys)) (length ys))
 
 pub first-at : (x : ℕ) (ys : List ℕ) → firstAt x ys < length ys → getD ys (firstAt x ys) 0 ≡ x
 first-at x [] h = absurd (omega arith)
@@ -47,9 +33,10 @@ first-low x (y ∷ ys) (suc j) h e = go (ℕ-discrete x y) (first-low x ys j (om
     go (yes q) ih = omega (arith, first-here x y ys q)
     go (no n) ih = omega (arith, first-later x y ys n)
 
+pub tree-is : (w : ℕ) (inits links : List ℕ) → TreeIn w inits links → links ≡ grown (valuesIn inits) (replicate (length (valuesIn inits)) 0)
+tree-is w inits links t = t .is ∙ ap (λ (n : ℕ). grown (valuesIn inits) (replicate n 0)) (sym (values-count inits w (t .held)))
+
 pub tree-finds : (x w : ℕ) (inits links : List ℕ) → TreeIn w inits links → found x (valuesIn inits) links ≡ firstAt x (valuesIn inits)
 tree-finds x w inits links t =
-    let many : length (valuesIn inits) ≡ w = values-count inits w (t .held) in
-    let size = t .few in
-    ap (found x (valuesIn inits)) (t .is ∙ ap (λ (n : ℕ). grown (valuesIn inits) (replicate n 0)) (sym many))
-    ∙ search-finds-first x (valuesIn inits) (omega arith)
+    ap (found x (valuesIn inits)) (tree-is w inits links t)
+    ∙ search-finds-first x (valuesIn inits) (omega (arith, values-count inits w (t .held), t .few))

@@ -23,14 +23,17 @@ use Rattle.memory.specs.Rows.{opsDue, limit}
 use Rattle.runs.specs.Plain.{among}
 use Rattle.runs.specs.Honest.{Input, filledRow}
 use Rattle.runs.specs.Filler.{inputsIn, rowNumbers, inputFault, Placed, placed}
-use Rattle.index.specs.Values.{valueAt}
+use Rattle.words.specs.Inputs.{valueAt, opAt, guardAt, addrAt}
 use Rattle.layout.specs.Laid.{laid}
-use Rattle.filler.specs.Words.{opAt, guardAt, addrAt, inputAt, copied}
-use Rattle.filler.specs.Scan.{emptied, refusal, leveled, faultAt, scanned}
-use Rattle.filler.proofs.Inputs.{inputs-cons}
+use Rattle.faults.specs.Inputs.{inputAt}
+use Rattle.filler.specs.Words.{copied}
+use Rattle.faults.specs.Scan.{emptied, refusal, leveled, faultAt, scanned}
+use Rattle.filler.specs.Write.{inSet}
+use Rattle.faults.proofs.Inputs.{inputs-cons}
 use Rattle.layout.proofs.Laid.{laid-put}
-use Rattle.filler.proofs.Forms.{coded, input, Formed}
-use Rattle.filler.proofs.Scanned.{fault-by-words, scan-turn}
+use Rattle.faults.proofs.Codes.{coded, input}
+use Rattle.filler.proofs.Forms.{Formed}
+use Rattle.faults.proofs.Scanned.{fault-by-words, scan-turn}
 
 -- t operations in 4 words each, and room for their rows, w end rows and t range rows
 pub record Given (w t : ℕ) (ops out₀ : List ℕ) : Type 0 where
@@ -75,21 +78,21 @@ onward-next {all} {k} {out₀} {out} w t ops given more from later row ws o e wo
 -- no operation has a fault, from a level on
 pub record Clean (m : Memory) (values : List ℕ) (level : ℕ) (is : List Input) : Type 0 where
   pub place : ℕ
-  pub none : scanned p m values level place is .number ≡ 0
+  pub none : scanned p m (inSet values) level place is .number ≡ 0
 
 -- a row without fault, by its words
 pub record Sound (m : Memory) (values : List ℕ) (level o g a v : ℕ) : Type 0 where
   pub formed : Formed o g a v m
-  pub possible : refusal m values level o g a v ≡ 0
+  pub possible : refusal m (inSet values) level o g a v ≡ 0
 
-sound-of : (m : Memory) (values : List ℕ) (level o g a v : ℕ) → faultAt p m values level (input o g a v) ≡ 0 → Sound m values level o g a v
-sound-of m values level o g a v e = go (inputFault p m (opsDue m Operating) (input o g a v)) refl (sym (fault-by-words p m values level o g a v) ∙ e)
+sound-of : (m : Memory) (values : List ℕ) (level o g a v : ℕ) → faultAt p m (inSet values) level (input o g a v) ≡ 0 → Sound m values level o g a v
+sound-of m values level o g a v e = go (inputFault p m (opsDue m Operating) (input o g a v)) refl (sym (fault-by-words p m (inSet values) level o g a v) ∙ e)
   where
-    at : (b : Bool) (f : ℕ) → inputFault p m (opsDue m Operating) (input o g a v) ≡ f → eqb f 0 ≡ b → cond b (refusal m values level o g a v) f ≡ 0 → Sound m values level o g a v
+    at : (b : Bool) (f : ℕ) → inputFault p m (opsDue m Operating) (input o g a v) ≡ f → eqb f 0 ≡ b → cond b (refusal m (inSet values) level o g a v) f ≡ 0 → Sound m values level o g a v
     at true f h t d = record { formed = h ∙ eqb-true f 0 t; possible = d }
     at false f h t d = absurd (eqb-false f 0 t d)
 
-    go : (f : ℕ) → inputFault p m (opsDue m Operating) (input o g a v) ≡ f → cond (eqb f 0) (refusal m values level o g a v) f ≡ 0 → Sound m values level o g a v
+    go : (f : ℕ) → inputFault p m (opsDue m Operating) (input o g a v) ≡ f → cond (eqb f 0) (refusal m (inSet values) level o g a v) f ≡ 0 → Sound m values level o g a v
     go f h d = at (eqb f 0) f h refl d
 
 pub record CleanTurn (m : Memory) (values : List ℕ) (level : ℕ) (ops : List ℕ) (k : ℕ) : Type 0 where
@@ -100,18 +103,18 @@ pub clean-turn : (m : Memory) (values : List ℕ) (level : ℕ) (ops : List ℕ)
     → Clean m values level (drop k (inputsIn ops)) → CleanTurn m values level ops k
 unfolding inputAt placed
 clean-turn m values level ops k h c =
-    let f : ℕ = faultAt p m values level (inputAt ops k) in
-    go (eqb f 0) refl (ap (λ (x : Placed). x .number) (sym (scan-turn p m values level (c .place) ops k h)) ∙ c .none)
+    let f : ℕ = faultAt p m (inSet values) level (inputAt ops k) in
+    go (eqb f 0) refl (ap (λ (x : Placed). x .number) (sym (scan-turn p m (inSet values) level (c .place) ops k h)) ∙ c .none)
   where
     rest : Placed
-    rest = scanned p m values (leveled m level (opAt ops k) (guardAt ops k)) (suc (c .place)) (drop (suc k) (inputsIn ops))
+    rest = scanned p m (inSet values) (leveled m level (opAt ops k) (guardAt ops k)) (suc (c .place)) (drop (suc k) (inputsIn ops))
 
-    go : (b : Bool) → eqb (faultAt p m values level (inputAt ops k)) 0 ≡ b → cond b rest (placed (faultAt p m values level (inputAt ops k)) (c .place)) .number ≡ 0 → CleanTurn m values level ops k
+    go : (b : Bool) → eqb (faultAt p m (inSet values) level (inputAt ops k)) 0 ≡ b → cond b rest (placed (faultAt p m (inSet values) level (inputAt ops k)) (c .place)) .number ≡ 0 → CleanTurn m values level ops k
     go true t d = record {
       here = sound-of m values level (opAt ops k) (guardAt ops k) (addrAt ops k) (valueAt ops k) (eqb-true _ 0 t);
       later = record {
         place = suc (c .place);
-        none = ap (λ (j : ℕ). scanned p m values (leveled m level (opAt ops k) (guardAt ops k)) (suc (c .place)) (drop j (inputsIn ops)) .number) (add-one k) ∙ d;
+        none = ap (λ (j : ℕ). scanned p m (inSet values) (leveled m level (opAt ops k) (guardAt ops k)) (suc (c .place)) (drop j (inputsIn ops)) .number) (add-one k) ∙ d;
       };
     }
     go false t d = absurd (eqb-false _ 0 t d)
@@ -123,15 +126,15 @@ passed : (b : Bool) (f : ℕ) → (f ≡ 0 → ⊥) → cond b 0 f ≡ 0 → b �
 passed true f h e = refl
 passed false f h e = absurd (h e)
 
-pub inside-ram : (values : List ℕ) (level o g a v : ℕ) → refusal Ram values level o g a v ≡ 0 → a < level
+pub inside-ram : (values : List ℕ) (level o g a v : ℕ) → refusal Ram (inSet values) level o g a v ≡ 0 → a < level
 unfolding refusal
 inside-ram values level o g a v e = ltb-true a level (passed (ltb a level) 11 (λ d. omega arith) e)
 
-pub inside-rom : (values : List ℕ) (level o g a v : ℕ) → refusal Rom values level o g a v ≡ 0 → a < level
+pub inside-rom : (values : List ℕ) (level o g a v : ℕ) → refusal Rom (inSet values) level o g a v ≡ 0 → a < level
 unfolding refusal
 inside-rom values level o g a v e = ltb-true a level (passed (ltb a level) 11 (λ d. omega arith) e)
 
-pub inside-set : (values : List ℕ) (level o g a v : ℕ) → refusal Set values level o g a v ≡ 0 → among v values ≡ true
+pub inside-set : (values : List ℕ) (level o g a v : ℕ) → refusal Set (inSet values) level o g a v ≡ 0 → among v values ≡ true
 unfolding refusal
 inside-set values level o g a v e = passed (among v values) 13 (λ d. omega arith) e
 
@@ -140,11 +143,11 @@ emptied-sound true g level e u h = absurd (eqb-false 0 0 u refl)
 emptied-sound false g level e u h =
     ltb-true 0 level (passed (ltb 0 level) 12 (λ d. omega arith) (ap (λ (b : Bool). cond b (cond (ltb 0 level) 0 12) 0) (sym (eq-eqb g 1 h)) ∙ e))
 
-pub held-stack : (values : List ℕ) (level o g a v : ℕ) → refusal Stack values level o g a v ≡ 0 → (o ≡ 4 → ⊥) → g ≡ 1 → 0 < level
+pub held-stack : (values : List ℕ) (level o g a v : ℕ) → refusal Stack (inSet values) level o g a v ≡ 0 → (o ≡ 4 → ⊥) → g ≡ 1 → 0 < level
 unfolding refusal
 held-stack values level o g a v e n h = emptied-sound (eqb o 4) g level e (ne-eqb o 4 n) h
 
-pub held-queue : (values : List ℕ) (level o g a v : ℕ) → refusal Queue values level o g a v ≡ 0 → (o ≡ 6 → ⊥) → g ≡ 1 → 0 < level
+pub held-queue : (values : List ℕ) (level o g a v : ℕ) → refusal Queue (inSet values) level o g a v ≡ 0 → (o ≡ 6 → ⊥) → g ≡ 1 → 0 < level
 unfolding refusal
 held-queue values level o g a v e n h = emptied-sound (eqb o 6) g level e (ne-eqb o 6 n) h
 

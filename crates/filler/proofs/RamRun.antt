@@ -16,11 +16,12 @@ use lib.Seq.{sets, getD-set-same, getD-set-other}
 use Rattle.memory.specs.declared.Memory.the-variants.{Ram}
 use Rattle.runs.specs.Honest.{Cell, cell, cellAt, filledRow, endRow, rangeRowsFrom, occurrences, ramAge, ramRow, ramCells, ramEnds, ramFrom, operationsFilled}
 use Rattle.runs.specs.Filler.{inputsIn}
-use Rattle.index.specs.Values.{valueAt, valuesIn}
-use Rattle.filler.specs.Words.{opAt, guardAt, addrAt, inputAt}
+use Rattle.words.specs.Inputs.{valueAt, opAt, guardAt, addrAt}
+use Rattle.index.specs.Values.{valuesIn}
+use Rattle.faults.specs.Inputs.{inputAt}
 use Rattle.filler.specs.Steps.{Turn, turnOf, counted, ramTold, RamReady}
 use Rattle.filler.specs.Ends.{cellEnds, ranges}
-use Rattle.filler.specs.Scan.{leveled}
+use Rattle.faults.specs.Scan.{leveled}
 use Rattle.filler.proofs.Inputs.{inputs-count, values-count}
 use Rattle.filler.proofs.Forms.{form-ram}
 use Rattle.filler.proofs.Onward.{Given, Onward, onward-start, onward-next, onward-as, Clean, CleanTurn, clean-turn, inside-ram, copied-words}

@@ -11,12 +11,14 @@ use lib.Seq.{sets}
 use Rattle.memory.specs.declared.Memory.the-variants.{Rom}
 use Rattle.runs.specs.Honest.{filledRow, endRow, occurrences, romFrom, romEndsFrom, operationsFilled}
 use Rattle.runs.specs.Filler.{inputsIn, rowNumbers}
-use Rattle.index.specs.Values.{valueAt, valuesIn}
-use Rattle.filler.specs.Words.{opAt, guardAt, addrAt, inputAt}
+use Rattle.words.specs.Inputs.{valueAt, opAt, guardAt, addrAt}
+use Rattle.index.specs.Values.{valuesIn}
+use Rattle.faults.specs.Inputs.{inputAt}
 use Rattle.filler.specs.Steps.{Turn, turnOf, romTold, RomReady}
 use Rattle.filler.specs.Ends.{valueEnds}
-use Rattle.filler.specs.Scan.{leveled}
-use Rattle.filler.proofs.Inputs.{inputs-count, values-at, values-count}
+use Rattle.faults.specs.Scan.{leveled}
+use Rattle.index.proofs.Values.{values-at}
+use Rattle.filler.proofs.Inputs.{inputs-count, values-count}
 use Rattle.filler.proofs.Forms.{form-rom}
 use Rattle.filler.proofs.Onward.{Given, Onward, onward-start, onward-next, onward-as, Clean, clean-turn, inside-rom, copied-words}
 use Rattle.filler.proofs.Counts.{occurrences-few, counts-turn}

@@ -17,14 +17,17 @@ use Rattle.memory.specs.declared.Memory.the-variants.{Set}
 use Rattle.runs.specs.Plain.{among}
 use Rattle.runs.specs.Honest.{filledRow, endRow, occurrences, setFrom, setEndsFrom, operationsFilled}
 use Rattle.runs.specs.Filler.{inputsIn, rowNumbers}
-use Rattle.index.specs.Values.{valueAt, valuesIn, firstAt}
-use Rattle.filler.specs.Words.{opAt, guardAt, addrAt, inputAt, TreeIn}
+use Rattle.words.specs.Inputs.{valueAt, opAt, guardAt, addrAt}
+use Rattle.index.specs.Values.{valuesIn, firstAt}
+use Rattle.faults.specs.Inputs.{inputAt}
+use Rattle.filler.specs.Words.{TreeIn}
 use Rattle.filler.specs.Steps.{Turn, turnOf, counted, setTold, SetReady}
 use Rattle.filler.specs.Ends.{valueEnds}
 use Rattle.filler.specs.Write.{TreeBuilt}
-use Rattle.filler.specs.Scan.{leveled}
+use Rattle.faults.specs.Scan.{leveled}
 use Rattle.filler.proofs.Inputs.{inputs-count, values-count}
-use Rattle.filler.proofs.Members.{among-first, first-at, first-low}
+use Rattle.index.proofs.Places.{among-first}
+use Rattle.filler.proofs.Members.{first-at, first-low}
 use Rattle.filler.proofs.Forms.{form-set}
 use Rattle.filler.proofs.Onward.{Given, Onward, onward-start, onward-next, onward-as, Clean, CleanTurn, clean-turn, inside-set, copied-words}
 use Rattle.filler.proofs.Counts.{occurrences-few, occurrences-same, occurrences-other}

@@ -19,13 +19,16 @@ use Rattle.memory.specs.Names.{opCode, isOp}
 use Rattle.runs.specs.Honest.{Cell, cell, cellAt, topCell, filledRow, bare, endRow, rangeRowsFrom, occurrences, stackEnds, popRow, popTime as honestTime, stackFrom, operationsFilled}
 use Rattle.runs.specs.Filler.{inputsIn, rowNumbers}
 use Rattle.filler.specs.declared.steps.Cursor.{Cursor}
-use Rattle.index.specs.Values.{valueAt, valuesIn}
-use Rattle.filler.specs.Words.{opAt, guardAt, addrAt, inputAt, copied}
+use Rattle.words.specs.Inputs.{valueAt, opAt, guardAt, addrAt}
+use Rattle.index.specs.Values.{valuesIn}
+use Rattle.faults.specs.Inputs.{inputAt}
+use Rattle.filler.specs.Words.{copied}
 use Rattle.filler.specs.Steps.{Turn, made, turnOf, counted, Countable, popTime, pushTold, pushed, popTold, popped, stackTold, stacked, StackReady}
 use Rattle.filler.specs.Ends.{cellEnds, ranges}
-use Rattle.filler.specs.Scan.{leveled}
+use Rattle.faults.specs.Scan.{leveled}
 use Rattle.filler.proofs.Inputs.{inputs-count}
-use Rattle.filler.proofs.Forms.{is-coded, form-stack, form-guard}
+use Rattle.faults.proofs.Codes.{is-coded}
+use Rattle.filler.proofs.Forms.{form-stack, form-guard}
 use Rattle.filler.proofs.Onward.{Given, Onward, onward-start, onward-next, onward-as, Clean, CleanTurn, clean-turn, held-stack, copied-words}
 use Rattle.filler.proofs.Counts.{occurrences-few, counts-turn, ranges-are}
 

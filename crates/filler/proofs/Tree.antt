@@ -13,8 +13,8 @@ use Rattle.memory.specs.declared.Memory.the-variants.{Set}
 use Rattle.memory.specs.Rows.{limit}
 use Rattle.index.specs.Values.{valuesIn}
 use Rattle.index.specs.Tree.{grown}
-use Rattle.filler.specs.Words.{TreeIn}
 use Rattle.filler.specs.Write.{Blank, TreeBuilt, Prepared}
+use Rattle.filler.proofs.Members.{tree-is}
 
 blank-part : (n : ℕ) (s : List ℕ) → n ≤ length s → Blank s → take n s ≡ replicate n 0
 blank-part n s h b =
@@ -34,5 +34,6 @@ tree-built n inits s part count room few b long grows = record {
       (ap (λ (k : ℕ). getD (part ++ drop n s) (k + j) 0) (sym long) ∙ getD-append-add part (drop n s) j 0 ∙ getD-drop n s j 0 ∙ b (n + j));
 }
 
-pub prepared-tree : (m : Memory) (n : ℕ) (inits s : List ℕ) → Prepared m n inits s → m ≡ Set → TreeIn n inits (take n s)
-prepared-tree m n inits s h e = subst (λ (x : Memory). Prepared x n inits s) e h .tree
+pub prepared-tree : (m : Memory) (n : ℕ) (inits s : List ℕ) → Prepared m n inits s → m ≡ Set
+    → take n s ≡ grown (valuesIn inits) (replicate (length (valuesIn inits)) 0)
+prepared-tree m n inits s h e = tree-is n inits (take n s) (subst (λ (x : Memory). Prepared x n inits s) e h .tree)

@@ -5,7 +5,7 @@
 --     roomy, away-unknown, away, not-away    what the library answers before it reads a row
 --     init-words-count, op-words-count, parts-filled    the rows in two parts, as they are lent
 -- Assumes nothing.
-use Prim.Native.Nat.{ℕ, zero, suc, _+_, _-_, _*_, _≤_, _<_}
+use Prim.Native.Nat.{ℕ, zero, suc, _+_, _-_, _*_, _≤_}
 use native.Mathlib.Omega.{arith}
 use native.Mathlib.Nat.{zero-add}
 use mathlib.Core.Bool.{Bool, true, false, cond, _&&_}
@@ -21,7 +21,9 @@ use Rattle.memory.specs.declared.Memory.{Memory}
 use Rattle.memory.specs.declared.Memory.the-variants.{Ram, Rom, Set, Stack, Queue}
 use Rattle.memory.specs.Rows.{limit, sized, allowed}
 use Rattle.runs.specs.Honest.{Input, filledRows}
-use Rattle.runs.specs.Filler.{inputsIn, rowNumbers, rowsFault, memoryCoded, room, Filling, turnedAway, rowRefused, filledWith, fillRows, fillMemory, fillOf}
+use Rattle.runs.specs.Filler.{inputsIn, rowNumbers, rowsFault, memoryCoded, room, Filling, Placed, turnedAway, rowRefused, filledWith, fillRows, fillMemory, fillOf}
+use Rattle.faults.specs.declared.Fault.{Fault}
+use Rattle.faults.specs.Scan.{placedOf}
 use Rattle.filler.specs.declared.Filled.the-variants.{Rows, Refused}
 use Rattle.filler.specs.Answer.{answerOf, placeOf, countOf, fillingOf, awayBy, Roomy}
 use Rattle.layout.specs.Laid.{laid}
@@ -57,14 +59,14 @@ pub allowed-count : (m : Memory) (n t : ℕ) → allowed m n t ≡ true → t �
 unfolding allowed
 allowed-count m n t e = leb-true t limit (and-both (sized m n) (leb t limit) e .1)
 
-pub refused-is : (m : Memory) (t : ℕ) (inits ops : List Input) (out s out′ s′ : List ℕ) (number place : ℕ)
-    → number ≡ rowsFault p m (map (λ i. i .value) inits) 1 inits ops .number → place ≡ rowsFault p m (map (λ i. i .value) inits) 1 inits ops .place → (number ≡ 0 → ⊥)
+pub refused-is : (m : Memory) (t : ℕ) (inits ops : List Input) (out s out′ s′ : List ℕ) (f : Fault)
+    → placedOf f ≡ rowsFault p m (map (λ i. i .value) inits) 1 inits ops → (f .number ≡ 0 → ⊥)
     → out′ ≡ replicate (length out) 0 → s′ ≡ replicate (length s) 0
-    → fillingOf (Refused number place) out′ s′ ≡ fillRows p m t inits ops out s
+    → fillingOf (Refused (f .number) (f .place)) out′ s′ ≡ fillRows p m t inits ops out s
 unfolding fillRows fillingOf answerOf placeOf countOf rowRefused
-refused-is m t inits ops out s out′ s′ number place n k fault o b =
-    (λ i. record { answer = n i; place = k i; count = 0; output = o i; scratch = b i })
-    ∙ sym (ap (λ (c : Bool). cond c (filledWith (filledRows m t inits ops) out s) (rowRefused (rowsFault p m (map (λ i. i .value) inits) 1 inits ops) out s)) (ne-eqb (rowsFault p m (map (λ i. i .value) inits) 1 inits ops .number) 0 (λ e. fault (n ∙ e))))
+refused-is m t inits ops out s out′ s′ f is fault o b =
+    (λ i. record { answer = is i .number; place = is i .place; count = 0; output = o i; scratch = b i })
+    ∙ sym (ap (λ (c : Bool). cond c (filledWith (filledRows m t inits ops) out s) (rowRefused (rowsFault p m (map (λ i. i .value) inits) 1 inits ops) out s)) (ne-eqb (rowsFault p m (map (λ i. i .value) inits) 1 inits ops .number) 0 (λ e. fault (ap (λ (x : Placed). x .number) is ∙ e))))
 
 pub filled-is : (m : Memory) (t : ℕ) (inits ops : List Input) (out s out′ s′ : List ℕ) (count : ℕ)
     → rowsFault p m (map (λ i. i .value) inits) 1 inits ops .number ≡ 0

@@ -2,5 +2,4 @@ pub mod Answer
 pub mod Words
 pub mod Steps
 pub mod Ends
-pub mod Scan
 pub mod Write

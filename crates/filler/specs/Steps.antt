@@ -12,10 +12,11 @@ use lib.Seq.{sets}
 use Rattle.memory.specs.declared.Memory.{Memory}
 use Rattle.memory.specs.declared.Memory.the-variants.{Ram, Rom, Set, Stack, Queue}
 use Rattle.memory.specs.Rows.{limit}
-use Rattle.index.specs.Values.{valueAt, valuesIn, firstAt}
+use Rattle.words.specs.Inputs.{valueAt, opAt, guardAt, addrAt}
+use Rattle.index.specs.Values.{valuesIn, firstAt}
 use Rattle.filler.specs.declared.steps.Cursor.{Cursor}
 use Rattle.filler.specs.declared.steps.Advice.{Advice}
-use Rattle.filler.specs.Words.{opAt, guardAt, addrAt, copied, TreeIn}
+use Rattle.filler.specs.Words.{copied, TreeIn}
 
 -- The words of a row, and the scratch words after it
 pub record Turn : Type 0 where

@@ -1,7 +1,7 @@
 -- What the writer of the rows after the init rows is given, and what it leaves.
 -- Assumes nothing.
 use Prim.Native.Nat.{ℕ, _+_, _*_, _≤_, _<_}
-use mathlib.Core.Bool.{true}
+use mathlib.Core.Bool.{Bool, true}
 use mathlib.Core.Path.{_≡_}
 use mathlib.Core.List.{List}
 use lib.ListN.{length, getD, take, drop}
@@ -9,6 +9,7 @@ use Rattle.field.specs.Field.{p}
 use Rattle.memory.specs.declared.Memory.{Memory}
 use Rattle.memory.specs.declared.Memory.the-variants.{Ram, Rom, Set, Stack, Queue}
 use Rattle.memory.specs.Rows.{sized, limit}
+use Rattle.runs.specs.Plain.{among}
 use Rattle.runs.specs.Honest.{operationsFilled}
 use Rattle.runs.specs.Filler.{inputsIn, room}
 use Rattle.filler.specs.declared.steps.Cursor.{Cursor}
@@ -16,7 +17,7 @@ use Rattle.index.specs.Values.{valuesIn}
 use Rattle.layout.specs.Laid.{laid}
 use Rattle.filler.specs.Words.{TreeIn}
 use Rattle.filler.specs.Ends.{ending, EndingFits}
-use Rattle.filler.specs.Scan.{scanned}
+use Rattle.faults.specs.Scan.{scanned}
 
 -- how many cells the scratch words hold: those of a ram, the keys of a rom or set, or as many as a stack or queue may come to hold
 unfoldable pub widthOf : Memory → ℕ → ℕ → ℕ
@@ -25,6 +26,10 @@ widthOf Rom n t = n
 widthOf Set n t = n
 widthOf Stack n t = t
 widthOf Queue n t = t
+
+-- whether a value is one of a set's elements
+abbrev pub inSet : List ℕ → ℕ → Bool
+inSet values v = among v values
 
 -- init rows and operations without fault, room for the rows after the init rows, and scratch words
 pub record Fillable (m : Memory) (n t : ℕ) (inits ops out s : List ℕ) : Type 0 where
@@ -35,7 +40,7 @@ pub record Fillable (m : Memory) (n t : ℕ) (inits ops out s : List ℕ) : Type
   pub operating : 4 * t ≡ length ops
   pub out-room : 7 * (n + 3 * t) ≤ length out
   pub scratch-room : room n t ≤ length s
-  pub clean : scanned p m (valuesIn inits) n (n + 1) (inputsIn ops) .number ≡ 0
+  pub clean : scanned p m (inSet (valuesIn inits)) n (n + 1) (inputsIn ops) .number ≡ 0
 
 -- scratch words that are all 0
 abbrev pub Blank : List ℕ → Type 0

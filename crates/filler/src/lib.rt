@@ -5,7 +5,6 @@ use memory::numbers;
 use rules::sizes;
 
 mod ends;
-mod faults;
 mod steps;
 mod write;
 
@@ -21,7 +20,7 @@ ghost use Rattle.runs.specs.Filler.{inputsIn, memoryCoded, rowsFault, fillRows,
 ghost use Rattle.index.specs.Values.{valuesIn};
 ghost use Rattle.filler.specs.Answer.{fillingOf, knownOf, awayBy, Roomy};
 ghost use Rattle.layout.specs.Laid.{laid};
-ghost use Rattle.filler.specs.Scan.{initsScanned};
+ghost use Rattle.faults.specs.Scan.{initsScanned, placedOf};
 ghost use Rattle.filler.specs.Write.{Fillable, Prepared};
 
 // What a fill comes to: how many rows it wrote, or the number and the place of its refusal.
@@ -57,7 +56,7 @@ fn copy_inits(n: usize, inits: &[u32], out: &mut [u32])
 {
     let mut k = 0;
     while k < n {
-        words::put(k, steps::read(inits, k), 0, 0, 0, out);
+        words::put(k, words::read(inits, k), 0, 0, 0, out);
         k += 1;
     }
 }
@@ -88,23 +87,15 @@ fn write_rows(
 }
 
 // The first fault of the rows, found with the scratch words as they are before the first operation.
-fn first_fault(
-    m: Memory,
-    n: usize,
-    t: usize,
-    inits: &[u32],
-    ops: &[u32],
-    scratch: &mut [u32],
-) -> Fault
-    requires { ⌜ (4 * n ≡ length (now inits)) × (4 * t ≡ length (now ops)) × (n ≤ limit) × (t ≤ limit) × (n ≤ length (now scratch)) ⌝ }
+fn first_fault(m: Memory, n: usize, inits: &[u32], ops: &[u32], scratch: &mut [u32]) -> Fault
+    requires { ⌜ (4 * n ≡ length (now inits)) × (n ≤ limit) × (n ≤ length (now scratch)) ⌝ }
     requires { ⌜ sized m n ≡ true ⌝ }
-    ensures number { λ r. ⌜ r .number ≡ rowsFault p m (valuesIn (now (inits .entry))) 1 (inputsIn (now (inits .entry))) (inputsIn (now (ops .entry))) .number ⌝ }
-    ensures place { λ r. ⌜ r .place ≡ rowsFault p m (valuesIn (now (inits .entry))) 1 (inputsIn (now (inits .entry))) (inputsIn (now (ops .entry))) .place ⌝ }
+    ensures fault { λ r. ⌜ placedOf r ≡ rowsFault p m (valuesIn (now (inits .entry))) 1 (inputsIn (now (inits .entry))) (inputsIn (now (ops .entry))) ⌝ }
     ensures prepared { λ _. ⌜ Prepared m n (now (inits .entry)) (now (scratch .exit)) ⌝ }
 {
     words::clear(scratch);
     write::prepare(m, n, inits, scratch);
-    faults::scan(m, n, t, inits, &scratch[..n], ops)
+    faults::first(m, inits, &scratch[..n], ops)
 }
 
 // The filler on rows that are as many as they should be, with room.
@@ -122,7 +113,7 @@ fn fill_rows(
     let from = 4 * n;
     let inits = &rows[..from];
     let ops = &rows[from..];
-    let fault = first_fault(m, n, t, inits, ops, scratch);
+    let fault = first_fault(m, n, inits, ops, scratch);
     if fault.number != 0 {
         words::clear_both(out, scratch);
         return Filled::Refused(fault.number, fault.place);

@@ -6,11 +6,10 @@ use memory::Memory;
 use words::Input;
 ghost use mathlib.Core.Bool.{cond};
 ghost use mathlib.Core.Path.{_≡_};
-ghost use Prim.Native.Nat.{_+_, _*_, _≤_, _<_};
+ghost use Prim.Native.Nat.{_+_, _*_, _<_};
 ghost use lib.Dec.{eqb};
 ghost use lib.ListN.{length, getD, set};
 ghost use Rattle.memory.specs.Rows.{limit};
-ghost use Rattle.filler.specs.Words.{wordsAt, RowFits};
 ghost use Rattle.filler.specs.Steps.{Turned, Advised, ramTold, Timely, romTold, RomReady, setTold, SetReady, pushTold, PushReady, popTold, PopReady, enqueueTold, EnqueueReady, dequeueTold, DequeueReady, stackTold, StackReady, queueTold, QueueReady, toldBy, ReadyBy, turn, advanced, Ready};
 
 // The clock, and where the cells begin and end that a stack or a queue holds.
@@ -26,20 +25,6 @@ pub struct Advice {
     pub time: u32,
     pub version: u32,
     pub next: Cursor,
-}
-
-// Reads input row k.
-pub fn read(rows: &[u32], k: usize) -> Input
-    requires { ⌜ 4 * k + 4 ≤ length (now rows) ⌝ }
-    ensures { λ r. ⌜ r ≡ wordsAt (now (rows .entry)) k ⌝ }
-{
-    let from = 4 * k;
-    Input {
-        op: rows[from],
-        guard: rows[from + 1],
-        addr: rows[from + 2],
-        value: rows[from + 3],
-    }
 }
 
 const PUSH: u32 = 4;
@@ -282,12 +267,11 @@ pub fn step(
     out: &mut [u32],
     scratch: &mut [u32],
 ) -> Cursor
-    requires { ⌜ RowFits k (now ops) (now out) ⌝ }
     requires { ⌜ Ready m w k at (now inits) (now ops) (now scratch) ⌝ }
     ensures turned { λ _. ⌜ Turned k (turn m w k at (now (inits .entry)) (now (ops .entry)) (now (scratch .entry))) (now (out .entry)) (now (out .exit)) (now (scratch .exit)) ⌝ }
     ensures next { λ r. ⌜ r ≡ advanced m k at (now (ops .entry)) ⌝ }
 {
-    let row = read(ops, k);
+    let row = words::read(ops, k);
     let advice = advise(m, w, at, row, inits, scratch);
     words::put(k, row, advice.old, advice.time, advice.version, out);
     let next = advice.next;

@@ -1,17 +1,19 @@
 -- The first place of a value in a list.
 --     first-here, first-later     by the first element
---     first-front     in the first elements of a list
---     first-next      in one element more
+--     first-kept, first-met, first-absent     in one element more
+--     among-first     a value is among a list where that place is before the end
 -- Assumes nothing.
 use Prim.Native.Nat.{ℕ, suc, _+_, _<_}
 use native.Mathlib.Omega.{arith}
 use native.Mathlib.Decide.{ℕ-discrete}
-use mathlib.Core.Bool.{Bool, cond}
+use mathlib.Core.Bool.{Bool, true, false, cond, _||_}
 use mathlib.Core.Path.{_≡_, sym, ap, _∙_}
 use mathlib.Core.List.{List, [], _∷_, _++_}
+use lib.Dec.{eqb, ltb, leb·suc-suc, leb·suc-zero}
 use lib.ListN.{length, getD, take}
 use lib.Seq.{take-suc, length-take-le}
-use borrow.Author.Tests.{eq-eqb, ne-eqb}
+use borrow.Author.Tests.{eq-eqb, ne-eqb, lt-ltb}
+use Rattle.runs.specs.Plain.{among}
 use Rattle.index.specs.Values.{firstAt}
 
 pub first-here : (x y : ℕ) (ys : List ℕ) → x ≡ y → firstAt x (y ∷ ys) ≡ 0
@@ -62,3 +64,13 @@ module _ (x k : ℕ) (ys : List ℕ) (more : k < length ys) where
   pub first-absent : firstAt x (take k ys) ≡ k → (x ≡ getD ys k 0 → ⊥) → firstAt x (take (suc k) ys) ≡ suc k
   unfolding firstAt
   first-absent h n = omega (arith, past h, first-later x (getD ys k 0) [] n)
+
+-- a value is among a list where its first place is before the end
+pub among-first : (x : ℕ) (ys : List ℕ) → among x ys ≡ ltb (firstAt x ys) (length ys)
+unfolding among firstAt
+among-first x [] = sym (leb·suc-zero 0)
+among-first x (y ∷ ys) = go (eqb x y) (among-first x ys)
+  where
+    go : (b : Bool) → among x ys ≡ ltb (firstAt x ys) (length ys) → (b || among x ys) ≡ ltb (cond b 0 (suc (firstAt x ys))) (suc (length ys))
+    go true ih = sym (lt-ltb 0 (suc (length ys)) (omega arith))
+    go false ih = ih ∙ sym (leb·suc-suc (suc (firstAt x ys)) (length ys))

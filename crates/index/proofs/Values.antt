@@ -8,7 +8,8 @@ use mathlib.Core.Path.{_≡_, refl, sym, ap, _∙_}
 use mathlib.Core.List.{List, [], _∷_}
 use lib.ListN.{length, getD}
 use Rattle.runs.specs.Filler.{inputsIn}
-use Rattle.index.specs.Values.{valueAt, valuesIn}
+use Rattle.words.specs.Inputs.{valueAt}
+use Rattle.index.specs.Values.{valuesIn}
 
 four-more : (k : ℕ) → 4 * suc k + 3 ≡ suc (suc (suc (suc (4 * k + 3))))
 four-more k = omega arith

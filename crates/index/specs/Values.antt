@@ -1,16 +1,12 @@
 -- The values of input rows in a slice of words, 4 words a row, and the first place of a value among them.
 -- Assumes nothing.
-use Prim.Native.Nat.{ℕ, suc, _+_, _*_}
+use Prim.Native.Nat.{ℕ, suc}
 use mathlib.Core.Bool.{cond}
 use mathlib.Core.List.{List, [], _∷_, map}
 use lib.Dec.{eqb}
-use lib.ListN.{getD}
 use Rattle.runs.specs.Filler.{inputsIn}
 
--- the value of input row k, and the values of all input rows
-abbrev pub valueAt : List ℕ → ℕ → ℕ
-valueAt inputs k = getD inputs (4 * k + 3) 0
-
+-- the values of all input rows
 unfoldable pub valuesIn : List ℕ → List ℕ
 valuesIn inputs = map (λ i. i .value) (inputsIn inputs)
 

@@ -5,10 +5,10 @@ use native.Mathlib.Omega.{arith}
 use mathlib.Core.Path.{sym, ap, _∙_}
 use lib.ListN.{replicate, length-drop}
 use Rattle.field.specs.Field.{p}
-use Rattle.runs.specs.Filler.{inputsIn, room}
+use Rattle.runs.specs.Filler.{inputsIn, room, Placed}
 use Rattle.index.specs.Values.{valuesIn}
 use Rattle.filler.proofs.Inputs.{inputs-count, values-count}
-use Rattle.filler.proofs.FirstFault.{clean-inits, clean-operations}
+use Rattle.filler.proofs.Clean.{clean-inits, clean-operations}
 use Rattle.filler.proofs.Whole.{sized-limit, allowed-size, allowed-count, refused-is, filled-is, initWords, opWords, init-words-count, op-words-count, parts-filled}
 use borrow.Author.Needs.{needs}
 use Rattle.filler.proofs.fill_rows.Statement.{statement}
@@ -42,9 +42,7 @@ first-fault-requires c κs =
     let size = allowed-size (at .m) (at .n) (at .t) proper in (
       (
         init-words-count rows (at .n) (at .t) all,
-        op-words-count rows (at .n) (at .t) all,
         sized-limit (at .m) (at .n) size,
-        allowed-count (at .m) (at .n) (at .t) proper,
         omega (arith, c .before .before .before .before .before .before .pre .scratch-room),
       ),
       size,
@@ -70,9 +68,9 @@ returns c =
     let inits = initWords rows (at .n) (at .t) all in
     let ops = opWords rows (at .n) (at .t) all in
     let fault = c .before .before .before .before .before .before .before .before .before .before .before .first-fault .result in
-    refused-is (at .m) (at .t) (inputsIn inits) (inputsIn ops) (at .out .now) (at .scratch .now) _ _ (fault .number) (fault .place)
-    (c .before .before .before .before .before .before .before .before .before .before .before .first-fault .ensures .0) (c .before .before .before .before .before .before .before .before .before .before .before .first-fault .ensures .1 .0) (c .before .before .before .before .before .before .before .if1 .taken) (c .before .before .before .before .clear-both .ensures .0)
-    (c .before .before .before .before .clear-both .ensures .1 ∙ ap (λ (k : ℕ). replicate k 0) (c .before .before .before .before .before .before .before .before .before .before .before .first-fault .kept .1 .1 .1 .1 .1 .0))
+    refused-is (at .m) (at .t) (inputsIn inits) (inputsIn ops) (at .out .now) (at .scratch .now) _ _ fault
+    (c .before .before .before .before .before .before .before .before .before .before .before .first-fault .ensures .0) (c .before .before .before .before .before .before .before .if1 .taken) (c .before .before .before .before .clear-both .ensures .0)
+    (c .before .before .before .before .clear-both .ensures .1 ∙ ap (λ (k : ℕ). replicate k 0) (c .before .before .before .before .before .before .before .before .before .before .before .first-fault .kept .1 .1 .1 .1 .0))
     ∙ parts-filled rows (at .n) (at .t) all (at .m) (at .out .now) (at .scratch .now)
 
 write-rows-requires : tie.Need-write-rows-requires
@@ -88,7 +86,7 @@ write-rows-requires c κs =
     let starting = init-words-count rows (at .n) (at .t) all in
     let values = values-count inits (at .n) starting in
     let inputs = inputs-count inits (at .n) starting in
-    let none = sym (c .before .before .before .before .before .before .first-fault .ensures .0) ∙ c .before .before .if1 .left in (
+    let none = ap (λ (f : Placed). f .number) (sym (c .before .before .before .before .before .before .first-fault .ensures .0)) ∙ c .before .before .if1 .left in (
       clean-inits p (at .m) (valuesIn inits) (inputsIn inits) (inputsIn ops) (at .n) values inputs size none,
       (
         omega (arith, c .before .before .before .before .before .before .before .before .before .before .before .before .before .pre .out-room),
@@ -103,7 +101,7 @@ write-rows-requires c κs =
             scratch-room = omega (arith, c .before .before .before .before .before .before .first-fault .kept, c .before .before .before .before .before .before .before .before .before .before .before .before .before .pre .scratch-room);
             clean = clean-operations p (at .m) (valuesIn inits) (inputsIn inits) (inputsIn ops) (at .n) values inputs size none;
           },
-          c .before .before .before .before .before .before .first-fault .ensures .1 .1,
+          c .before .before .before .before .before .before .first-fault .ensures .1,
         ),
       ),
     )
@@ -122,9 +120,9 @@ returns-2 c =
     let all = c .before .before .before .before .before .before .before .before .before .before .before .before .before .before .before .before .before .before .pre .all in
     let inits = initWords rows (at .n) (at .t) all in
     let ops = opWords rows (at .n) (at .t) all in
-    let none = sym (c .before .before .before .before .before .before .before .before .before .before .before .first-fault .ensures .0) ∙ c .before .before .before .before .before .before .before .if1 .left in
+    let none = ap (λ (f : Placed). f .number) (sym (c .before .before .before .before .before .before .before .before .before .before .before .first-fault .ensures .0)) ∙ c .before .before .before .before .before .before .before .if1 .left in
     filled-is (at .m) (at .t) (inputsIn inits) (inputsIn ops) (at .out .now) (at .scratch .now) _ _ (c .before .before .before .before .write-rows .result)
-    none (c .before .before .before .before .write-rows .ensures .0) (c .before .before .before .before .write-rows .ensures .1 .0 ∙ ap (λ (k : ℕ). replicate k 0) (c .before .before .before .before .before .before .before .before .before .before .before .first-fault .kept .1 .1 .1 .1 .1 .0)) (c .before .before .before .before .write-rows .ensures .1 .1)
+    none (c .before .before .before .before .write-rows .ensures .0) (c .before .before .before .before .write-rows .ensures .1 .0 ∙ ap (λ (k : ℕ). replicate k 0) (c .before .before .before .before .before .before .before .before .before .before .before .first-fault .kept .1 .1 .1 .1 .0)) (c .before .before .before .before .write-rows .ensures .1 .1)
     ∙ parts-filled rows (at .n) (at .t) all (at .m) (at .out .now) (at .scratch .now)
 
 pub fill-rows-spec : {M : Type 1} → statement M

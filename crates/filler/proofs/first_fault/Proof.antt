@@ -3,9 +3,15 @@
 use Prim.Native.Nat.{ℕ}
 use native.Mathlib.Omega.{arith}
 use mathlib.Core.List.{List}
-use mathlib.Core.Path.{sym, ap, _∙_}
+use mathlib.Core.Bool.{true}
+use mathlib.Core.Path.{_≡_, sym, ap, _∙_}
 use lib.ListN.{length, getD}
 use lib.Seq.{length-take-le}
+use Rattle.field.specs.Field.{p}
+use Rattle.memory.specs.Rows.{sized}
+use Rattle.runs.specs.Filler.{inputsIn}
+use Rattle.faults.proofs.FirstFault.{scan-finds-first}
+use Rattle.filler.proofs.Inputs.{inputs-count}
 use Rattle.filler.proofs.Tree.{prepared-tree}
 use Rattle.filler.proofs.Whole.{blank-all}
 use borrow.Author.Needs.{needs}
@@ -18,27 +24,31 @@ clear-requires c κs = search needs
 prepare-requires : tie.Need-prepare-requires
 prepare-requires c κs =
     let at = c .before .before .before .before .before .before .before .before .args in (
-      (c .before .before .before .before .before .before .before .before .pre .0 .0, omega (arith, c .before .before .before .clear .kept, c .before .before .before .before .before .before .before .before .pre .0 .4), c .before .before .before .before .before .before .before .before .pre .0 .2),
+      (c .before .before .before .before .before .before .before .before .pre .0 .0, omega (arith, c .before .before .before .clear .kept, c .before .before .before .before .before .before .before .before .pre .0 .2), c .before .before .before .before .before .before .before .before .pre .0 .1),
       (λ j. ap (λ (s : List ℕ). getD s j 0) (c .before .before .before .clear .ensures) ∙ blank-all (length (at .scratch .now)) j),
     )
 
-slice-reshare-prefix-scan : tie.Need-slice-reshare-prefix-scan
-slice-reshare-prefix-scan c = omega (arith, c .before .before .prepare .kept, c .before .before .before .before .before .before .clear .kept, c .before .before .before .before .before .before .before .before .before .before .before .pre .0 .4)
+slice-reshare-prefix-first : tie.Need-slice-reshare-prefix-first
+slice-reshare-prefix-first c = omega (arith, c .before .before .prepare .kept, c .before .before .before .before .before .before .clear .kept, c .before .before .before .before .before .before .before .before .before .before .before .pre .0 .2)
 
-slice-aggregate-scan : tie.Need-slice-aggregate-scan
-slice-aggregate-scan c = sym (length-take-le (c .before .before .before .before .before .before .before .before .before .before .before .before .args .n) _ (omega (arith, c .before .before .before .prepare .kept, c .before .before .before .before .before .before .before .clear .kept, c .before .before .before .before .before .before .before .before .before .before .before .before .pre .0 .4)))
+slice-aggregate-first : tie.Need-slice-aggregate-first
+slice-aggregate-first c = sym (length-take-le (c .before .before .before .before .before .before .before .before .before .before .before .before .args .n) _ (omega (arith, c .before .before .before .prepare .kept, c .before .before .before .before .before .before .before .clear .kept, c .before .before .before .before .before .before .before .before .before .before .before .before .pre .0 .2)))
 
-scan-requires : tie.Need-scan-requires
-scan-requires c κs =
-    let at = c .before .before .before .before .before .before .before .before .before .before .before .before .args in
-    let pre = c .before .before .before .before .before .before .before .before .before .before .before .before .pre in
-    ((pre .0 .0, pre .0 .1, pre .0 .2, pre .0 .3), (pre .1, prepared-tree (at .m) (at .n) (at .inits .now) _ (c .before .before .before .prepare .ensures)))
+first-requires : tie.Need-first-requires
+first-requires c κs =
+    search needs
 
 same-length : tie.Need-same-length
 same-length c = search needs
 
 returns : tie.Need-returns
-returns c = (c .scan .ensures .0, (c .scan .ensures .1, c .before .before .before .before .prepare .ensures))
+returns c =
+    let at = c .before .before .before .before .before .before .before .before .before .before .before .before .before .args in
+    let pre = c .before .before .before .before .before .before .before .before .before .before .before .before .before .pre in
+    let inits = at .inits .now in
+    let prepared = c .before .before .before .before .prepare .ensures in
+    let sizes : sized (at .m) (length (inputsIn inits)) ≡ true = ap (sized (at .m)) (inputs-count inits (at .n) (pre .0 .0)) ∙ pre .1 in
+    (c .first .ensures ∙ scan-finds-first p (at .m) inits _ (at .ops .now) sizes (prepared-tree (at .m) (at .n) inits _ prepared), prepared)
 
 pub first-fault-spec : {M : Type 1} → statement M
 first-fault-spec =
@@ -46,8 +56,8 @@ first-fault-spec =
     (tie.spec
     clear-requires
     prepare-requires
-    slice-reshare-prefix-scan
-    slice-aggregate-scan
-    scan-requires
+    slice-reshare-prefix-first
+    slice-aggregate-first
+    first-requires
     same-length
     returns)

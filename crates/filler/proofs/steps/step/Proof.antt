@@ -11,7 +11,7 @@ read-requires c κs = search needs
 advise-requires : tie.Need-advise-requires
 advise-requires c κs =
     let at = c .before .before .before .before .before .before .args in
-    ready-read (at .m) (at .w) (at .k) (at .at) (at .inits .now) (at .ops .now) (at .scratch .now) (c .before .read .ensures) (c .before .before .before .before .before .before .pre .1)
+    ready-read (at .m) (at .w) (at .k) (at .at) (at .inits .now) (at .ops .now) (at .scratch .now) (c .before .read .ensures) (c .before .before .before .before .before .before .pre)
 
 put-requires : tie.Need-put-requires
 put-requires c κs = search needs

@@ -8,8 +8,8 @@ use mathlib.Core.List.{List}
 use borrow.Author.Needs.{needs}
 use lib.ListN.{length, getD, set, length-set}
 use lib.Seq.{getD-set-same, getD-set-other}
-use Rattle.index.specs.Values.{valueAt}
-use Rattle.filler.proofs.Inputs.{values-at}
+use Rattle.words.specs.Inputs.{valueAt}
+use Rattle.index.proofs.Values.{values-at}
 use Rattle.filler.proofs.write.load.Statement.{statement}
 use Rattle.filler.proofs.write.load.Tie as tie
 

@@ -35,11 +35,7 @@ step-requires : tie.Need-step-requires Inv-loop μ-loop
 step-requires c κs = let at = c .before .before .before .before .before .before .before .before .before .args in
     let now = c .before .before .before .loop in
     let inv = now .inv in
-    let given = inv .2 in
-    let long = progress-long (at .m) (c .before .before .before .before .width .result) (at .t) (at .inits .now) (at .ops .now) (at .out .now) given (inv .3) (now .k) (now .at) (now .out) (now .scratch) (inv .4) in (
-      record { read = omega (arith, given .rows); room = omega (arith, given .room) },
-      progress-ready (at .m) (c .before .before .before .before .width .result) (at .t) (at .inits .now) (at .ops .now) (at .out .now) given (inv .3) (now .k) (now .at) (now .out) (now .scratch) (inv .4) (c .before .before .loop-test .taken),
-    )
+    progress-ready (at .m) (c .before .before .before .before .width .result) (at .t) (at .inits .now) (at .ops .now) (at .out .now) (inv .2) (inv .3) (now .k) (now .at) (now .out) (now .scratch) (inv .4) (c .before .before .loop-test .taken)
 
 add-k : tie.Need-add-k Inv-loop μ-loop
 add-k c = search needs

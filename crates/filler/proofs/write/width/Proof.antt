@@ -10,7 +10,8 @@ use Rattle.memory.proofs.Memory.{the-type}
 use Rattle.memory.specs.declared.Memory.{Memory}
 use Rattle.memory.specs.declared.Memory.the-variants.{Ram, Rom, Set, Stack, Queue}
 use Rattle.filler.specs.Write.{widthOf}
-use Rattle.filler.proofs.Tags.{up-to-2, from-3}
+use Rattle.faults.proofs.Tags.{up-to-2}
+use Rattle.filler.proofs.Tags.{from-3}
 use Rattle.filler.proofs.write.width.Statement.{statement}
 use Rattle.filler.proofs.write.width.Tie as tie
 

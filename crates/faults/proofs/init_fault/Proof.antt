@@ -1,0 +1,22 @@
+-- `faults::init_fault` meets its contract.
+-- Assumes nothing.
+use mathlib.Core.Path.{ap, _∙_}
+use Rattle.field.specs.Field.{p}
+use Rattle.memory.specs.declared.Op.{Op}
+use Rattle.faults.specs.Scan.{initFault}
+use borrow.Author.Needs.{needs}
+use Rattle.faults.proofs.init_fault.Statement.{statement}
+use Rattle.faults.proofs.init_fault.Tie as tie
+
+coded-requires : tie.Need-coded-requires
+coded-requires c κs = search needs
+
+fault-requires : tie.Need-fault-requires
+fault-requires c κs = search needs
+
+returns : tie.Need-returns
+unfolding initFault
+returns c = c .fault .ensures ∙ ap (λ (o : Op). initFault p (record { op = o; guard = c .before .before .args .row .guard; addr = c .before .before .args .row .addr; value = c .before .before .args .row .value })) (c .before .coded .ensures)
+
+pub init-fault-spec : {M : Type 1} → statement M
+init-fault-spec = tie.close (tie.spec coded-requires fault-requires returns)

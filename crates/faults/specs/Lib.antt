@@ -1,0 +1,4 @@
+pub mod Inputs
+pub mod Scan
+pub mod Statements
+pub mod Promises
