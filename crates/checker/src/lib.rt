@@ -60,7 +60,7 @@ pub fn fresh(memory: Memory, size: u32, count: u32, challenge: Challenge) -> Sta
 }
 
 // The number of a line that reads as no row: 3, and any other fault counts as 2.
-fn line_fault(parsed: Parsed) -> u32
+fn unread_fault(parsed: Parsed) -> u32
     ensures { λ r. ⌜ r ≡ unreadOf parsed ⌝ }
 {
     match parsed {
@@ -80,7 +80,7 @@ fn take(s: State, parsed: Parsed) -> State
     ensures { λ r. ⌜ r ≡ takeParsed p s parsed ⌝ }
 {
     let Parsed::Sound(row) = parsed else {
-        return state::refuse(s, line_fault(parsed));
+        return state::refuse(s, unread_fault(parsed));
     };
     if !values::below(
         row.guard,

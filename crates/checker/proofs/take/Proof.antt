@@ -14,8 +14,8 @@ enum-known-parsed c = search needs
 enum-told : tie.Need-enum-told
 enum-told c = search needs
 
-line-fault-requires : tie.Need-line-fault-requires
-line-fault-requires c κs = search needs
+unread-fault-requires : tie.Need-unread-fault-requires
+unread-fault-requires c κs = search needs
 
 refuse-requires : tie.Need-refuse-requires
 refuse-requires c κs = search needs
@@ -24,7 +24,7 @@ returns : tie.Need-returns
 unfolding takeParsed unreadOf
 returns c =
     let c1 = c .before in
-    simp (c .refuse .ensures, c1 .line-fault .ensures, c1 .before .enum-told .given .1)
+    simp (c .refuse .ensures, c1 .unread-fault .ensures, c1 .before .enum-told .given .1)
 
 below-requires : tie.Need-below-requires
 below-requires c κs = search needs
@@ -57,7 +57,7 @@ take-spec =
     (tie.spec
     enum-known-parsed
     enum-told
-    line-fault-requires
+    unread-fault-requires
     refuse-requires
     returns
     below-requires

@@ -1,10 +1,10 @@
--- `checker::line_fault` meets its contract.
+-- `checker::unread_fault` meets its contract.
 -- Assumes nothing.
 use borrow.Author.Needs.{needs}
 use borrow.Author.Tests.{eq-eqb, ne-eqb}
 use Rattle.checker.specs.Unread.{unreadOf}
-use Rattle.checker.proofs.line_fault.Statement.{statement}
-use Rattle.checker.proofs.line_fault.Tie as tie
+use Rattle.checker.proofs.unread_fault.Statement.{statement}
+use Rattle.checker.proofs.unread_fault.Tie as tie
 
 enum-told : tie.Need-enum-told
 enum-told c = search needs
@@ -24,5 +24,5 @@ returns-3 : tie.Need-returns-3
 unfolding unreadOf
 returns-3 c = let known = c .before .before .parsed .given .1 in simp (known, ne-eqb _ _ (c .if1 .left))
 
-pub line-fault-spec : {M : Type 1} → statement M
-line-fault-spec = tie.close (tie.spec enum-told enum-known-parsed returns returns-2 returns-3)
+pub unread-fault-spec : {M : Type 1} → statement M
+unread-fault-spec = tie.close (tie.spec enum-told enum-known-parsed returns returns-2 returns-3)
