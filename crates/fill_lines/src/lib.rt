@@ -9,9 +9,11 @@ ghost use Rattle.memory.specs.Names.{fillNames, inputNames};
 ghost use Rattle.memory.specs.File.{namesFault};
 ghost use Rattle.runs.specs.FillFile.{fillAllowed, jobOf, parseJob, parseInput};
 ghost use Rattle.keys.specs.Keys.{knownOf};
+ghost use Rattle.lines.specs.Answers.{namedOf};
 ghost use Rattle.fill_lines.specs.Answers.{taskOf, givenOf, inputWith};
 use fields::Found;
 use keys::Known;
+use lines::Named;
 use memory::Memory;
 use memory::Op;
 use memory::names::FILL_NAMES;
@@ -111,16 +113,16 @@ pub fn input_line(text: &[u8], ended: bool) -> Given
     given_row(keys::op_of(key), &columns)
 }
 
-// The fault of line 1, or 0.
-pub fn fill_names_line(text: &[u8], ended: bool) -> u32
-    ensures { λ r. ⌜ r ≡ namesFault fillNames (record { text = now (text .entry); ended = ended }) ⌝ }
+// What line 1 reads as.
+pub fn fill_names_line(text: &[u8], ended: bool) -> Named
+    ensures { λ r. ⌜ r ≡ namedOf (namesFault fillNames (record { text = now (text .entry); ended = ended })) ⌝ }
 {
-    lines::names_fault(&FILL_NAMES, text, ended)
+    lines::names_line(&FILL_NAMES, text, ended)
 }
 
-// The fault of line 3, or 0.
-pub fn input_names_line(text: &[u8], ended: bool) -> u32
-    ensures { λ r. ⌜ r ≡ namesFault inputNames (record { text = now (text .entry); ended = ended }) ⌝ }
+// What line 3 reads as.
+pub fn input_names_line(text: &[u8], ended: bool) -> Named
+    ensures { λ r. ⌜ r ≡ namedOf (namesFault inputNames (record { text = now (text .entry); ended = ended })) ⌝ }
 {
-    lines::names_fault(&INPUT_NAMES, text, ended)
+    lines::names_line(&INPUT_NAMES, text, ended)
 }

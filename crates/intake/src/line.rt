@@ -2,6 +2,7 @@
 use super::due;
 use fill_lines::Given;
 use fill_lines::Task;
+use lines::Named;
 use memory::Op;
 use memory::Phase;
 use memory::numbers;
@@ -12,9 +13,9 @@ ghost use mathlib.Core.Path.{_≡_};
 ghost use Prim.Native.Nat.{_<_};
 ghost use Rattle.field.specs.Field.{p};
 ghost use Rattle.runs.specs.FillFile.{parseJob, inputLineFault};
-ghost use Rattle.runs.specs.FillStream.{gathered, refuseOn, namesTaken, jobTaken, refuseRow, inputTaken, rowTaken, lineTaken};
+ghost use Rattle.runs.specs.FillStream.{gathered, refuseOn, jobTaken, refuseRow, inputTaken, rowTaken, lineTaken};
 ghost use Rattle.intake.specs.Words.{storedWords, givenRow};
-ghost use Rattle.intake.specs.Faults.{taskFault, givenFault};
+ghost use Rattle.intake.specs.Answers.{namedTaken, taskFault, givenFault};
 
 // A fault on a line.
 pub fn refuse(mut intake: Intake, answer: u32, line: u32) -> Intake
@@ -33,16 +34,16 @@ pub fn refuse_row(intake: Intake, answer: u32) -> Intake
     refuse(intake, answer, line)
 }
 
-// A names line by its fault, or 0.
-fn named(mut intake: Intake, place: u32, fault: u32) -> Intake
+// A names line by what it reads as.
+fn named(mut intake: Intake, place: u32, read: Named) -> Intake
     requires { ⌜ place < 4 ⌝ }
-    ensures { λ r. ⌜ r ≡ namesTaken intake place fault ⌝ }
+    ensures { λ r. ⌜ r ≡ namedTaken intake place read ⌝ }
 {
-    if fault == 0 {
-        intake.place = place + 1;
-        return intake;
-    }
-    refuse(intake, fault, place)
+    let Named::Names = read else {
+        return refuse(intake, lines::names_number(read), place);
+    };
+    intake.place = place + 1;
+    intake
 }
 
 // The number of a value line that is refused, 2, 3 or 4; 0 of any other.

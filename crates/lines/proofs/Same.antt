@@ -12,6 +12,8 @@ use borrow.Author.Tests.{eq-eqb, ne-eqb}
 use Rattle.memory.specs.Bytes.{same}
 use Rattle.memory.specs.File.{namesFault}
 use Rattle.keys.proofs.Keys.{same-eq}
+use Rattle.lines.specs.declared.Named.the-variants.{Names, Fault}
+use Rattle.lines.specs.Answers.{namedOf}
 
 -- texts of different lengths differ
 pub same-length : (xs ys : List ℕ) → (length xs ≡ length ys → ⊥) → same xs ys ≡ false
@@ -41,16 +43,16 @@ pub same-ends : (xs ys : List ℕ) (i : ℕ) → length xs ≤ i → length ys �
 unfolding same
 same-ends xs ys i over past = rw (drop-of-length-le xs over, drop-of-length-le ys past)
 
--- the fault of a names line, by the comparison and by the line feed
+-- the answer to a names line, by the comparison and by the line feed
 module _ (names text : List ℕ) (ended : Bool) where
-  pub names-differ : same text names ≡ false → 1 ≡ namesFault names (record { text = text; ended = ended })
-  unfolding namesFault
-  names-differ e = rw e
+  pub names-differ : same text names ≡ false → Fault 1 ≡ namedOf (namesFault names (record { text = text; ended = ended }))
+  unfolding namesFault namedOf
+  names-differ e = rw e refl
 
-  pub names-whole : same text names ≡ true → ended ≡ true → 0 ≡ namesFault names (record { text = text; ended = ended })
-  unfolding namesFault
-  names-whole e is = rw (e, is)
+  pub names-whole : same text names ≡ true → ended ≡ true → Names ≡ namedOf (namesFault names (record { text = text; ended = ended }))
+  unfolding namesFault namedOf
+  names-whole e is = rw (e, is) refl
 
-  pub names-broken : same text names ≡ true → ended ≡ false → 2 ≡ namesFault names (record { text = text; ended = ended })
-  unfolding namesFault
-  names-broken e is = rw (e, is)
+  pub names-broken : same text names ≡ true → ended ≡ false → Fault 2 ≡ namedOf (namesFault names (record { text = text; ended = ended }))
+  unfolding namesFault namedOf
+  names-broken e is = rw (e, is) refl

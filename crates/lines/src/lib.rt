@@ -10,7 +10,7 @@ ghost use Rattle.memory.specs.Names.{valueNames, rowNames};
 ghost use Rattle.memory.specs.Rows.{rowWith, parseRow};
 ghost use Rattle.memory.specs.File.{openedBy, parseValues, namesFault};
 ghost use Rattle.keys.specs.Keys.{knownOf};
-ghost use Rattle.lines.specs.Answers.{openingOf};
+ghost use Rattle.lines.specs.Answers.{openingOf, namedOf, namesNumber};
 use fields::Found;
 use keys::Known;
 use memory::Challenge;
@@ -31,6 +31,12 @@ pub enum Opened {
         challenge: Challenge,
     },
     Shut(u32),
+}
+
+// What a names line reads as: the names, or its fault 1 or 2.
+pub enum Named {
+    Names,
+    Fault(u32),
 }
 
 // What 32 bits hold is below it.
@@ -111,33 +117,47 @@ pub fn value_line(text: &[u8], ended: bool) -> Opened
     opened_by(keys::memory_of(key), &values)
 }
 
-// The fault 1 or 2 of a line that is to be these names, or 0.
-pub fn names_fault(names: &[u8], text: &[u8], ended: bool) -> u32
-    ensures { λ r. ⌜ r ≡ namesFault (now (names .entry)) (record { text = now (text .entry); ended = ended }) ⌝ }
+// What a line that is to be these names reads as.
+pub fn names_line(names: &[u8], text: &[u8], ended: bool) -> Named
+    ensures { λ r. ⌜ r ≡ namedOf (namesFault (now (names .entry)) (record { text = now (text .entry); ended = ended })) ⌝ }
 {
     if text.len() != names.len() {
-        return numbers::NOT_NAMES;
+        return Named::Fault(numbers::NOT_NAMES);
     }
     let mut i = 0;
     while i < names.len() {
         if text[i] != names[i] {
-            return numbers::NOT_NAMES;
+            return Named::Fault(numbers::NOT_NAMES);
         }
         i += 1;
     }
-    if ended { 0 } else { numbers::UNREADABLE }
+    if ended {
+        Named::Names
+    } else {
+        Named::Fault(numbers::UNREADABLE)
+    }
 }
 
-// The fault of line 1, or 0.
-pub fn value_names_line(text: &[u8], ended: bool) -> u32
-    ensures { λ r. ⌜ r ≡ namesFault valueNames (record { text = now (text .entry); ended = ended }) ⌝ }
+// What line 1 reads as.
+pub fn value_names_line(text: &[u8], ended: bool) -> Named
+    ensures { λ r. ⌜ r ≡ namedOf (namesFault valueNames (record { text = now (text .entry); ended = ended })) ⌝ }
 {
-    names_fault(&VALUE_NAMES, text, ended)
+    names_line(&VALUE_NAMES, text, ended)
 }
 
-// The fault of line 3, or 0.
-pub fn row_names_line(text: &[u8], ended: bool) -> u32
-    ensures { λ r. ⌜ r ≡ namesFault rowNames (record { text = now (text .entry); ended = ended }) ⌝ }
+// What line 3 reads as.
+pub fn row_names_line(text: &[u8], ended: bool) -> Named
+    ensures { λ r. ⌜ r ≡ namedOf (namesFault rowNames (record { text = now (text .entry); ended = ended })) ⌝ }
 {
-    names_fault(&ROW_NAMES, text, ended)
+    names_line(&ROW_NAMES, text, ended)
+}
+
+// The number of a names line that is refused, 1 or 2; 0 of any other.
+pub fn names_number(read: Named) -> u32
+    ensures { λ r. ⌜ r ≡ namesNumber read ⌝ }
+{
+    match read {
+        Named::Names => 0,
+        Named::Fault(fault) => fault,
+    }
 }

@@ -1,2 +1,2 @@
 -- What the contracts of crate stands cite beside document 01's definitions.
-pub mod Shut
+pub mod Answers

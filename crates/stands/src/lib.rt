@@ -1,4 +1,5 @@
 // One whole line of a file: line 1, the value line, line 3, and the rows.
+use lines::Named;
 use lines::Opened;
 use memory::Challenge;
 use memory::Context;
@@ -11,8 +12,8 @@ ghost use Prim.Native.Nat.{_<_};
 ghost use Rattle.field.specs.Field.{p};
 ghost use Rattle.memory.specs.File.{parseValues};
 ghost use Rattle.memory.specs.Step.{refusedState, openedOf};
-ghost use Rattle.memory.specs.Stream.{namesRead, rowNamesRead, lineOf};
-ghost use Rattle.stands.specs.Shut.{shutNumber};
+ghost use Rattle.memory.specs.Stream.{rowNamesRead, lineOf};
+ghost use Rattle.stands.specs.Answers.{namedRead, shutNumber};
 
 // A state that has refused a line before the rows.
 pub fn refused(answer: u32, line: u32) -> State
@@ -50,20 +51,20 @@ pub fn refused(answer: u32, line: u32) -> State
     }
 }
 
-// A names line by its fault, or 0: the next line follows, or the file is refused on this one.
-fn named(place: u32, state: State, fault: u32) -> Stand
+// A names line by what it reads as: the next line follows, or the file is refused on this one.
+fn named(place: u32, state: State, read: Named) -> Stand
     requires { ⌜ place < 4 ⌝ }
-    ensures { λ r. ⌜ r ≡ namesRead place state fault ⌝ }
+    ensures { λ r. ⌜ r ≡ namedRead place state read ⌝ }
 {
-    if fault == 0 {
+    let Named::Names = read else {
         return Stand {
-            place: place + 1,
-            state,
+            place: 4,
+            state: refused(lines::names_number(read), place),
         };
-    }
+    };
     Stand {
-        place: 4,
-        state: refused(fault, place),
+        place: place + 1,
+        state,
     }
 }
 

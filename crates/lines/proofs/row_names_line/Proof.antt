@@ -6,15 +6,15 @@ use Rattle.memory.specs.Names.{rowNames}
 use Rattle.lines.proofs.row_names_line.Statement.{statement}
 use Rattle.lines.proofs.row_names_line.Tie as tie
 
-slice-aggregate-names-fault : tie.Need-slice-aggregate-names-fault
-slice-aggregate-names-fault c = search needs
+slice-aggregate-names-line : tie.Need-slice-aggregate-names-line
+slice-aggregate-names-line c = search needs
 
-names-fault-requires : tie.Need-names-fault-requires
-names-fault-requires c κs = search needs
+names-line-requires : tie.Need-names-line-requires
+names-line-requires c κs = search needs
 
 returns : tie.Need-returns
 unfolding rowNames bytes
-returns c = c .names-fault .ensures
+returns c = c .names-line .ensures
 
 pub row-names-line-spec : {M : Type 1} → statement M
-row-names-line-spec = tie.close (tie.spec slice-aggregate-names-fault names-fault-requires returns)
+row-names-line-spec = tie.close (tie.spec slice-aggregate-names-line names-line-requires returns)

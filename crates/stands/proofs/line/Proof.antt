@@ -3,9 +3,10 @@
 use mathlib.Core.Path.{sym, _∙_, ap}
 use Rattle.field.specs.Field.{p}
 use Rattle.memory.specs.Step.{stepOf, rowOf}
-use Rattle.memory.specs.Stream.{stand, namesRead}
+use Rattle.memory.specs.Stream.{stand}
 use Rattle.stands.proofs.Places.{line-one, line-two, line-three, line-row}
 use borrow.Author.Needs.{needs}
+use Rattle.stands.specs.Answers.{namedRead}
 use Rattle.stands.proofs.line.Statement.{statement}
 use Rattle.stands.proofs.line.Tie as tie
 
@@ -30,7 +31,7 @@ step-requires c κs = search needs
 returns : tie.Need-returns
 returns c =
     let a = c .before .before .before .before .args in
-    c .named .ensures ∙ ap (namesRead 1 (a .stand .state)) (c .before .value-names-line .ensures) ∙ sym (line-one p _ _ (c .before .before .match .keys1))
+    c .named .ensures ∙ ap (namedRead 1 (a .stand .state)) (c .before .value-names-line .ensures) ∙ sym (line-one p _ _ (c .before .before .match .keys1))
 
 returns-2 : tie.Need-returns-2
 unfolding stand

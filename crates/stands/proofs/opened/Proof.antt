@@ -7,7 +7,7 @@ use Rattle.memory.specs.Step.{refusedState, openedOf}
 use Rattle.lines.specs.declared.Opened.{Opened}
 use Rattle.lines.specs.Answers.{openingOf}
 use borrow.Author.Needs.{needs}
-use Rattle.stands.specs.Shut.{shutNumber}
+use Rattle.stands.specs.Answers.{shutNumber}
 use Rattle.stands.proofs.opened.Statement.{statement}
 use Rattle.stands.proofs.opened.Tie as tie
 

@@ -2,9 +2,10 @@
 -- Assumes nothing.
 use mathlib.Core.Path.{sym, _∙_, ap}
 use borrow.Author.Tests.{not-true, not-false}
-use Rattle.memory.specs.Stream.{stand, namesRead}
+use Rattle.memory.specs.Stream.{stand}
 use Rattle.stands.proofs.Places.{row-names-taken, row-names-passed}
 use borrow.Author.Needs.{needs}
+use Rattle.stands.specs.Answers.{namedRead}
 use Rattle.stands.proofs.row_names.Statement.{statement}
 use Rattle.stands.proofs.row_names.Tie as tie
 
@@ -27,7 +28,7 @@ returns-2 : tie.Need-returns-2
 returns-2 c =
     let takes = c .before .before .before .takes-rows in
     c .named .ensures
-    ∙ ap (namesRead 3 (c .before .before .before .before .before .args .state)) (c .before .row-names-line .ensures)
+    ∙ ap (namedRead 3 (c .before .before .before .before .before .args .state)) (c .before .row-names-line .ensures)
     ∙ sym (row-names-taken _ _ (sym (takes .ensures) ∙ not-false (takes .result) (c .before .before .if1 .left)))
 
 pub row-names-spec : {M : Type 1} → statement M

@@ -1,7 +1,7 @@
 -- `stands::shut_number` meets its contract.
 -- Assumes nothing.
 use borrow.Author.Needs.{needs}
-use Rattle.stands.specs.Shut.{shutNumber}
+use Rattle.stands.specs.Answers.{shutNumber}
 use Rattle.stands.proofs.shut_number.Statement.{statement}
 use Rattle.stands.proofs.shut_number.Tie as tie
 

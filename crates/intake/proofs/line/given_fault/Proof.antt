@@ -1,7 +1,7 @@
 -- `intake::line::given_fault` meets its contract.
 -- Assumes nothing.
 use borrow.Author.Needs.{needs}
-use Rattle.intake.specs.Faults.{givenFault}
+use Rattle.intake.specs.Answers.{givenFault}
 use Rattle.intake.proofs.line.given_fault.Statement.{statement}
 use Rattle.intake.proofs.line.given_fault.Tie as tie
 

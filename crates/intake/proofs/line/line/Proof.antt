@@ -3,9 +3,10 @@
 use mathlib.Core.Path.{_∙_, ap}
 use Rattle.field.specs.Field.{p}
 use Rattle.runs.specs.declared.Intake.{Intake}
-use Rattle.runs.specs.FillStream.{gathered, namesTaken}
+use Rattle.runs.specs.FillStream.{gathered}
 use Rattle.intake.proofs.Places.{line-refused, line-one, line-two, line-three, line-row}
 use borrow.Author.Needs.{needs}
+use Rattle.intake.specs.Answers.{namedTaken}
 use Rattle.intake.proofs.line.line.Statement.{statement}
 use Rattle.intake.proofs.line.line.Tie as tie
 
@@ -33,7 +34,7 @@ row-requires c κs = search needs
 returns-2 : tie.Need-returns-2
 returns-2 c =
     let a = c .before .before .before .before .before .before .before .args in
-    ap (λ (i : Intake). gathered i (a .words .now)) (c .named .ensures ∙ ap (namesTaken (a .intake) 1) (c .before .fill-names-line .ensures))
+    ap (λ (i : Intake). gathered i (a .words .now)) (c .named .ensures ∙ ap (namedTaken (a .intake) 1) (c .before .fill-names-line .ensures))
     ∙ line-one p (a .intake) (a .words .now) _ (c .before .before .before .if1 .left) (c .before .before .match .keys1)
 
 returns-3 : tie.Need-returns-3
@@ -45,7 +46,7 @@ returns-3 c =
 returns-4 : tie.Need-returns-4
 returns-4 c =
     let a = c .before .before .before .before .before .before .before .args in
-    ap (λ (i : Intake). gathered i (a .words .now)) (c .named2 .ensures ∙ ap (namesTaken (a .intake) 3) (c .before .input-names-line .ensures))
+    ap (λ (i : Intake). gathered i (a .words .now)) (c .named2 .ensures ∙ ap (namedTaken (a .intake) 3) (c .before .input-names-line .ensures))
     ∙ line-three p (a .intake) (a .words .now) _ (c .before .before .before .if1 .left) (c .before .before .match .keys3)
 
 same-length : tie.Need-same-length

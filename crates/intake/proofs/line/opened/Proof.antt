@@ -6,7 +6,7 @@ use Rattle.runs.specs.FillStream.{refuseOn, jobTaken}
 use Rattle.fill_lines.specs.declared.Task.{Task}
 use Rattle.fill_lines.specs.Answers.{taskOf}
 use borrow.Author.Needs.{needs}
-use Rattle.intake.specs.Faults.{taskFault}
+use Rattle.intake.specs.Answers.{taskFault}
 use Rattle.intake.proofs.line.opened.Statement.{statement}
 use Rattle.intake.proofs.line.opened.Tie as tie
 

@@ -6,7 +6,7 @@ use Rattle.runs.specs.declared.Intake.{Intake}
 use Rattle.runs.specs.FillStream.{gathered, refuseRow}
 use Rattle.fill_lines.specs.Answers.{givenOf}
 use Rattle.intake.specs.Words.{givenRow}
-use Rattle.intake.specs.Faults.{givenFault}
+use Rattle.intake.specs.Answers.{givenFault}
 use Rattle.intake.proofs.Rows.{row-surplus, row-due, row-faulty}
 use borrow.Author.Needs.{needs}
 use Rattle.intake.proofs.line.row.Statement.{statement}

@@ -1,7 +1,7 @@
 -- `intake::line::task_fault` meets its contract.
 -- Assumes nothing.
 use borrow.Author.Needs.{needs}
-use Rattle.intake.specs.Faults.{taskFault}
+use Rattle.intake.specs.Answers.{taskFault}
 use Rattle.intake.proofs.line.task_fault.Statement.{statement}
 use Rattle.intake.proofs.line.task_fault.Tie as tie
 

@@ -1,4 +1,4 @@
--- `lines::names_fault` meets its contract. The loop's invariant: the texts are the same if they are from the position on.
+-- `lines::names_line` meets its contract. The loop's invariant: the texts are the same if they are from the position on.
 -- Assumes nothing.
 use Prim.Native.Nat.{_-_, _≤_}
 use mathlib.Core.Path.{_≡_, refl, _∙_}
@@ -6,8 +6,8 @@ use native.Mathlib.Omega.{arith}
 use lib.ListN.{length, drop}
 use Rattle.memory.specs.Bytes.{same}
 use Rattle.lines.proofs.Same.{same-length, same-goes, same-stops, same-ends, names-differ, names-whole, names-broken}
-use Rattle.lines.proofs.names_fault.Statement.{statement}
-use Rattle.lines.proofs.names_fault.Tie as tie
+use Rattle.lines.proofs.names_line.Statement.{statement}
+use Rattle.lines.proofs.names_line.Tie as tie
 
 abbrev Inv-loop : tie.InvT-loop
 Inv-loop names text ended i₀ i = (i ≤ length names) × (same text names ≡ same (drop i text) (drop i names))
@@ -59,8 +59,8 @@ returns-4 c =
     let a = l .before .before .args in
     names-broken _ _ _ (l .loop .inv .1 ∙ same-ends (a .text .now) (a .names .now) (l .loop .i) (omega arith) (omega arith)) (c .if3 .left)
 
-pub names-fault-spec : {M : Type 1} → statement M
-names-fault-spec =
+pub names-line-spec : {M : Type 1} → statement M
+names-line-spec =
     tie.close
     (tie.spec
     Inv-loop
