@@ -2,9 +2,7 @@
 use lines::Named;
 use lines::Opened;
 use memory::Challenge;
-use memory::Context;
 use memory::Memory;
-use memory::Products;
 use memory::Stand;
 use memory::State;
 ghost use mathlib.Core.Path.{_≡_};
@@ -15,40 +13,20 @@ ghost use Rattle.memory.specs.Step.{refusedState, openedOf};
 ghost use Rattle.memory.specs.Stream.{rowNamesRead, lineOf};
 ghost use Rattle.stands.specs.Answers.{namedRead, shutNumber};
 
-// A state that has refused a line before the rows.
+// A state that has refused a line before the rows: a fresh one of size and count 0, with answer and line set.
 pub fn refused(answer: u32, line: u32) -> State
     ensures { λ r. ⌜ r ≡ refusedState answer line ⌝ }
 {
-    State {
-        context: Context {
-            memory: Memory::Ram,
-            size: 0,
-            count: 0,
-            passed: 0,
-            pushed: 0,
-            popped: 0,
-            depths: 1,
-            inputs: 0,
-            mults: 0,
-            answer,
-            line,
-            ended: false,
-        },
-        challenge: Challenge {
-            r: 0,
-            a: 0,
-            b: 0,
-            c: 0,
-        },
-        products: Products {
-            written: 1,
-            read: 1,
-            supplied: 1,
-            looked: 1,
-            enqueued: 0,
-            dequeued: 0,
-        },
-    }
+    let none = Challenge {
+        r: 0,
+        a: 0,
+        b: 0,
+        c: 0,
+    };
+    let mut state = checker::fresh(Memory::Ram, 0, 0, none);
+    state.context.answer = answer;
+    state.context.line = line;
+    state
 }
 
 // A names line by what it reads as: the next line follows, or the file is refused on this one.
