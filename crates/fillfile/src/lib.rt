@@ -16,7 +16,7 @@ ghost use Rattle.fillfile.specs.Progress.{begun, leftBy};
 ghost use Rattle.fillfile.specs.Ending.{Finished};
 
 // "The filling program takes size and count up to 128".
-const LIMIT: usize = 128;
+const LIMIT: usize = fill_lines::LIMIT as usize;
 
 // The words that the program lends: 4 for each row of its input,
 pub const WORDS: usize = 4 * (LIMIT + LIMIT);
