@@ -1,5 +1,7 @@
 // The answer of a checker, in the part of its state that no challenge enters: whether rows are still taken, a refusal, and the end of file.
 use memory::Context;
+use memory::FIRST_LINE;
+use memory::HEAD_LINES;
 use memory::Products;
 use memory::numbers;
 use rules::counters;
@@ -19,7 +21,7 @@ pub fn refuse_next(c: Context, fault: u32) -> Context
 {
     let mut o = c;
     o.answer = fault;
-    o.line = counters::raise(c.passed, 4);
+    o.line = counters::raise(c.passed, FIRST_LINE);
     o
 }
 
@@ -29,7 +31,7 @@ fn refuse_last(c: Context, fault: u32) -> Context
 {
     let mut o = c;
     o.answer = fault;
-    o.line = counters::raise(c.passed, 3);
+    o.line = counters::raise(c.passed, HEAD_LINES);
     o
 }
 

@@ -1,4 +1,5 @@
 // The filling program's input, line by line, from the bytes of a block to an intake and the words of its rows. Section "The filler" of document 01.
+use memory::HEAD_LINES;
 use memory::numbers;
 use runs::Intake;
 
@@ -6,6 +7,7 @@ mod line;
 
 ghost use mathlib.Core.Path.{_≡_};
 ghost use Rattle.field.specs.Field.{p};
+ghost use Rattle.memory.specs.File.{headLines};
 ghost use Rattle.memory.specs.Step.{raise};
 ghost use Rattle.memory.specs.Pieces.{lastIn};
 ghost use Rattle.runs.specs.FillStream.{gathered, rowsDue, lineTaken, endTaken};
@@ -20,10 +22,10 @@ pub fn due(intake: Intake) -> usize
 
 // "row k being line k + 3"
 pub fn line_of(place: usize) -> u32
-    ensures { λ r. ⌜ r ≡ raise place 3 ⌝ }
+    ensures { λ r. ⌜ r ≡ raise place headLines ⌝ }
 {
-    if place < (u32::MAX - 3) as usize {
-        place as u32 + 3
+    if place < (u32::MAX - HEAD_LINES) as usize {
+        place as u32 + HEAD_LINES
     } else {
         u32::MAX
     }

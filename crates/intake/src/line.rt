@@ -3,6 +3,7 @@ use super::due;
 use fill_lines::Given;
 use fill_lines::Task;
 use lines::Named;
+use memory::FIRST_LINE;
 use memory::Op;
 use memory::Phase;
 use memory::numbers;
@@ -12,6 +13,7 @@ use runs::Intake;
 ghost use mathlib.Core.Path.{_≡_};
 ghost use Prim.Native.Nat.{_<_};
 ghost use Rattle.field.specs.Field.{p};
+ghost use Rattle.memory.specs.File.{firstLine};
 ghost use Rattle.runs.specs.FillFile.{parseJob, inputLineFault};
 ghost use Rattle.runs.specs.FillStream.{gathered, refuseOn, jobTaken, refuseRow, inputTaken, rowTaken, lineTaken};
 ghost use Rattle.intake.specs.Words.{storedWords, givenRow};
@@ -30,13 +32,13 @@ pub fn refuse(mut intake: Intake, answer: u32, line: u32) -> Intake
 pub fn refuse_row(intake: Intake, answer: u32) -> Intake
     ensures { λ r. ⌜ r ≡ refuseRow intake answer ⌝ }
 {
-    let line = counters::raise(intake.passed, 4);
+    let line = counters::raise(intake.passed, FIRST_LINE);
     refuse(intake, answer, line)
 }
 
 // A names line by what it reads as.
 fn named(mut intake: Intake, place: u32, read: Named) -> Intake
-    requires { ⌜ place < 4 ⌝ }
+    requires { ⌜ place < firstLine ⌝ }
     ensures { λ r. ⌜ r ≡ namedTaken intake place read ⌝ }
 {
     let Named::Names = read else {

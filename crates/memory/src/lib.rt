@@ -2,6 +2,11 @@
 pub mod names;
 pub mod numbers;
 
+// Names line, value line and names line come before the rows, which begin on line 4.
+pub const HEAD_LINES: u32 = 3;
+
+pub const FIRST_LINE: u32 = HEAD_LINES + 1;
+
 // "The memory is `ram`, `rom`, `set`, `stack` or `queue`."
 pub enum Memory {
     Ram,
@@ -107,7 +112,7 @@ pub struct Report {
 
 // What the lines of a checked file leave.
 pub struct Stand {
-    // the number of the next line, 4 for all rows
+    // the number of the next line, FIRST_LINE for all rows
     pub place: u32,
     pub state: State,
 }

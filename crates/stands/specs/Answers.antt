@@ -3,6 +3,7 @@
 use Prim.Native.Nat.{ℕ, _+_}
 use Rattle.memory.specs.declared.Stand.{Stand}
 use Rattle.memory.specs.declared.State.{State}
+use Rattle.memory.specs.File.{firstLine}
 use Rattle.memory.specs.Step.{refusedState}
 use Rattle.memory.specs.Stream.{stand}
 use Rattle.lines.specs.declared.Named.{Named}
@@ -13,7 +14,7 @@ use Rattle.lines.specs.declared.Opened.the-variants.{Opens, Shut}
 -- line 1 and line 3, by what they read as: the next line follows, or the file is refused on this one
 unfoldable pub namedRead : ℕ → State → Named → Stand
 namedRead k s Names = stand (k + 1) s
-namedRead k s (Fault fault) = stand 4 (refusedState fault k)
+namedRead k s (Fault fault) = stand firstLine (refusedState fault k)
 
 -- the number of a value line that is refused; 0 of any other
 unfoldable pub shutNumber : Opened → ℕ

@@ -2,13 +2,14 @@
 use lines::Named;
 use lines::Opened;
 use memory::Challenge;
+use memory::FIRST_LINE;
 use memory::Memory;
 use memory::Stand;
 use memory::State;
 ghost use mathlib.Core.Path.{_≡_};
 ghost use Prim.Native.Nat.{_<_};
 ghost use Rattle.field.specs.Field.{p};
-ghost use Rattle.memory.specs.File.{parseValues};
+ghost use Rattle.memory.specs.File.{firstLine, parseValues};
 ghost use Rattle.memory.specs.Step.{refusedState, openedOf};
 ghost use Rattle.memory.specs.Stream.{rowNamesRead, lineOf};
 ghost use Rattle.stands.specs.Answers.{namedRead, shutNumber};
@@ -31,12 +32,12 @@ pub fn refused(answer: u32, line: u32) -> State
 
 // A names line by what it reads as: the next line follows, or the file is refused on this one.
 fn named(place: u32, state: State, read: Named) -> Stand
-    requires { ⌜ place < 4 ⌝ }
+    requires { ⌜ place < firstLine ⌝ }
     ensures { λ r. ⌜ r ≡ namedRead place state read ⌝ }
 {
     let Named::Names = read else {
         return Stand {
-            place: 4,
+            place: FIRST_LINE,
             state: refused(lines::names_number(read), place),
         };
     };
@@ -78,7 +79,10 @@ fn row_names(state: State, text: &[u8], ended: bool) -> Stand
     ensures { λ r. ⌜ r ≡ rowNamesRead state (record { text = now (text .entry); ended = ended }) ⌝ }
 {
     if !answers::takes_rows(state.context) {
-        return Stand { place: 4, state };
+        return Stand {
+            place: FIRST_LINE,
+            state,
+        };
     }
     named(3, state, lines::row_names_line(text, ended))
 }
@@ -96,7 +100,7 @@ pub fn line(stand: Stand, text: &[u8], ended: bool) -> Stand
         },
         3 => row_names(stand.state, text, ended),
         _ => Stand {
-            place: 4,
+            place: FIRST_LINE,
             state: checker::step(stand.state, lines::row_line(text, ended)),
         },
     }
