@@ -1063,88 +1063,119 @@ case 'long: one million bytes without a line feed'       => '1,1,0,0',  'x' x 10
 case 'long: many blank lines'                            => '1,1,0,0',  "\n" x $LONG;
 case 'long: many surplus blank lines'                    => '7,12,0,0', @RAM, "\n" x $LONG;
 
-# Lines cut at the edges of blocks of 65536 bytes. The header of a ram with a size of four digits and count 0 has 84 bytes; an init row has 21
-# bytes with a value of five digits, and 22 with one of six.
+# Lines cut where one read of a file ends and the next begins. A read takes at most a block, so these edges are at the multiples of a block. What
+# is printed is the same wherever reads end.
 
-# Values for cells: so many, the first of them with six digits, the others with five.
-sub values_of {
-    my ($cells, $longer) = @_;
-    return map { $_ < $longer ? 100000 + $_ : 10000 + $_ } 0 .. $cells - 1;
-}
+use constant BLOCK => 65536;
+my @EDGES = (BLOCK, 2 * BLOCK);
 
-# An accepted ram without operations, at a challenge.
-sub untouched_ram {
-    my ($challenge, @values) = @_;
-    return (
-        header('ram', scalar @values, 0, @$challenge),
-        (map { "init,0,0,$_,0,0,0\n" } @values),
-        (map { "end,0,0,0,$_,0,0\n" } @values),
-    );
-}
+# The files are roms of three cells at c = 0: a look then writes what it reads, whatever stands in it, so that looks of many bytes fill a block
+# with few rows. The end rows are held against the init rows as ever.
+my @CELLS = (1111111111, 1234567890, 2147483646);
+my @ENDS  = map { "end,0,0,$_,0,0,0\n" } @CELLS;
 
-# The beginning of a ram of 9000 cells, of exactly so many bytes: the header and complete init rows.
-sub beginning {
+# A look of so many bytes, 17 to 44.
+sub look_of {
     my ($bytes) = @_;
-    my $cells = int(($bytes - 84) / 21);
-    my @lines = (header('ram', 9000, 0), map { "init,0,0,$_,0,0,0\n" } values_of($cells, ($bytes - 84) % 21));
+    my ($addr, $old, $version) = map { 1 x int(($bytes - 14 + $_) / 3) } 0 .. 2;
+    return row('look', 0, $addr, 0, $old, 0, $version);
+}
+
+# The beginning of such a rom, of exactly so many bytes: the header, the init rows, and looks. They are all that are due if no count is given.
+sub beginning {
+    my ($bytes, $count) = @_;
+    my @inits = map { "init,0,0,$_,0,0,0\n" } @CELLS;
+    my $left  = $bytes - length join('', header('rom', 3, 9999, 100, 1, 2, 0), @inits);
+    my $looks = int(($left + 43) / 44);
+    my ($each, $longer) = (int($left / $looks), $left % $looks);
+    my @lines = (
+        header('rom', 3, $count // $looks, 100, 1, 2, 0), @inits,
+        (look_of($each)) x ($looks - $longer), $longer ? (look_of($each + 1)) x $longer : (),
+    );
     my $length = length join('', @lines);
     die "the beginning has $length bytes, not $bytes\n" if $length != $bytes;
     return @lines;
 }
 
-# The last line feed of the init rows is the byte of that number: 84 + 3116*21 + longer rows.
-case 'edge: an init ends with byte 65534'                => '0,0,6232,6232', untouched_ram([100, 1, 2, 3], values_of(3116, 14));
-case 'edge: an init ends with byte 65535'                => '0,0,6232,6232', untouched_ram([100, 1, 2, 3], values_of(3116, 15));
-case 'edge: an init ends with byte 65536'                => '0,0,6232,6232', untouched_ram([100, 1, 2, 3], values_of(3116, 16));
-case 'edge: an init ends with byte 65537'                => '0,0,6232,6232', untouched_ram([100, 1, 2, 3], values_of(3116, 17));
-case 'edge: an init ends with byte 65538'                => '0,0,6232,6232', untouched_ram([100, 1, 2, 3], values_of(3116, 18));
-# With 0 to 20 more digits in the challenge the edge falls on each byte of an end row.
-for my $more (0 .. 20) {
-    my $digits = $more > 18 ? 18 : $more;
-    my @challenge = (1 x (1 + int($digits / 2)), 1 x (1 + $digits - int($digits / 2)), 1 x (1 + $more - $digits), 3);
-    case "edge: $more digits more in the challenge"      => '0,0,3400,3400', untouched_ram(\@challenge, values_of(1700, 0));
+# The values for an accepted rom that begins so: 2T + n and 2T + 2n for three cells. Header and init rows are six lines.
+sub accepted_after {
+    my $looks = @_ - 6;
+    return join(',', 0, 0, 2 * $looks + 3, 2 * $looks + 6);
 }
-# 84 + 1596*(21 + 20) + 8*2.
-my @BLOCK = untouched_ram([100, 1, 2, 3], values_of(1596, 8));
-die "not a block\n" if length join('', @BLOCK) != 65536;
-case 'edge: a file of 65536 bytes'                       => '0,0,3192,3192', @BLOCK;
-case 'edge: the same without its last line feed'         => '2,3195,0,0', unended(@BLOCK);
-case 'edge: the same and a line feed'                    => '7,3196,0,0', @BLOCK, "\n";
-case 'edge: the same and a byte'                         => '7,3196,0,0', @BLOCK, 'x';
-case 'edge: the same without its last line'              => '7,3195,0,0', first_lines(\@BLOCK, 3194);
-case 'edge: the same with a wrong end'                   => '10,3195,0,0', with(\@BLOCK, 3195 => 'end,0,0,0,99999,0,0');
-# 84 + 3194*(21 + 20) + 17*2.
-my @BLOCKS = untouched_ram([100, 1, 2, 3], values_of(3194, 17));
-die "not two blocks\n" if length join('', @BLOCKS) != 131072;
-case 'edge: a file of 131072 bytes'                      => '0,0,6388,6388', @BLOCKS;
-case 'edge: that without its last line feed'             => '2,6391,0,0', unended(@BLOCKS);
-case 'edge: that and a byte'                             => '7,6392,0,0', @BLOCKS, "\n";
-case 'edge: rows end with byte 65535'                    => '7,3120,0,0', beginning(65535);
-case 'edge: rows end with byte 65536'                    => '7,3120,0,0', beginning(65536);
-case 'edge: rows end with byte 65537'                    => '7,3120,0,0', beginning(65537);
-case 'edge: an unended row across byte 65536'            => '2,3120,0,0', beginning(65530), 'init,0,0,5,0,0,0';
-case 'edge: an unended row up to byte 65536'             => '2,3120,0,0', beginning(65520), 'init,0,0,5,0,0,0';
-case 'edge: one byte after byte 65536'                   => '2,3120,0,0', beginning(65536), 'i';
-case 'edge: a blank line after byte 65536'               => '2,3120,0,0', beginning(65536), "\n";
-case 'edge: a blank line is byte 65536'                  => '2,3120,0,0', beginning(65535), "\n";
-case 'edge: 05 cut after the 0'                          => '2,3120,0,0', beginning(65526), "init,0,0,05,0,0,0\n";
-case 'edge: p cut after five digits'                     => '3,3120,0,0', beginning(65522), "init,0,0,2147483647,0,0,0\n";
-case 'edge: 11 digits cut after ten'                     => '2,3119,0,0', beginning(65517), "init,0,0,10000000000,0,0,0\n";
-case 'edge: an op cut after two letters'                 => '5,3120,0,0', beginning(65534), "inix,0,0,5,0,0,0\n";
-case 'edge: 8 fields cut before the last comma'          => '2,3120,0,0', beginning(65520), "init,0,0,5,0,0,0,0\n";
-case 'edge: 6 fields cut before the line feed'           => '2,3120,0,0', beginning(65522), "init,0,0,5,0,0\n";
-case 'edge: guard 1 is byte 65536'                       => '6,3120,0,0', beginning(65530), "init,1,0,5,0,0,0\n";
-case 'edge: guard 1 after byte 65536'                    => '6,3120,0,0', beginning(65531), "init,1,0,5,0,0,0\n";
-# A line of 80 bytes with an op that is unknown is 5, one of 81 bytes 2, wherever the edge cuts it.
-my %cuts = (65455 => 3116, 65456 => 3116, 65457 => 3117, 65496 => 3118, 65535 => 3120, 65536 => 3120);
-for my $bytes (sort keys %cuts) {
-    case "edge: 80 bytes after byte $bytes"              => "5,$cuts{$bytes},0,0", beginning($bytes), 'x' x 68, ",0,0,0,0,0,0\n";
-    case "edge: 81 bytes after byte $bytes"              => "2,$cuts{$bytes},0,0", beginning($bytes), 'x' x 69, ",0,0,0,0,0,0\n";
+
+sub refused { my ($answer, $line) = @_; return "$answer,$line,0,0"; }
+
+# A case at each edge: the fault is on the line after a beginning whose looks are not all there. The two texts are what stands behind the
+# beginning, up to the edge and from there on.
+sub at_edges {
+    my ($name, $answer, $before, $after) = @_;
+    for my $edge (@EDGES) {
+        my @lines = beginning($edge - length $before, 9000);
+        case "edge $edge: $name" => refused($answer, @lines + 1), @lines, $before, $after;
+    }
 }
-# The header of that ram has 81 bytes.
-case 'edge: a long line ends with byte 65536'            => '2,4,0,0', first_lines(\@RAM, 3), 'x' x 65454, "\n", @RAM[3 .. 10];
-case 'edge: a long line ends with byte 65537'            => '2,4,0,0', first_lines(\@RAM, 3), 'x' x 65455, "\n", @RAM[3 .. 10];
-case 'edge: a long line from byte 65500 to 131100'       => '2,3119,0,0', beginning(65500), 'x' x 65600, "\n", "init,0,0,5,0,0,0\n";
+
+for my $edge (@EDGES) {
+    # An end row has 25 bytes. The edge is before and after each byte of the second, and of the last line feed.
+    for my $bytes (25 .. 50, 74, 75) {
+        my @lines = beginning($edge - $bytes);
+        case "edge $edge: accepted, after byte $bytes of the end rows" => accepted_after(@lines), @lines, @ENDS;
+    }
+    my @lines = beginning($edge - 40);
+    case "edge $edge: a false restatement cut by it"     => refused(10, @lines + 3), @lines, $ENDS[0], "end,0,0,1234567891,0,0,0\n", $ENDS[2];
+    @lines = beginning($edge - 50);
+    case "edge $edge: the last row is missing after it"  => refused(7, @lines + 3), @lines, @ENDS[0, 1];
+    my @file = (beginning($edge - 75), @ENDS);
+    my $last = @file;
+    case "edge $edge: the last line feed is missing before it" => refused(2, $last), unended(@file);
+    case "edge $edge: a false restatement before it"     => refused(10, $last), with(\@file, $last => 'end,0,0,2147483645,0,0,0');
+    case "edge $edge: a surplus line feed after it"      => refused(7, $last + 1), @file, "\n";
+    case "edge $edge: a surplus byte after it"           => refused(7, $last + 1), @file, 'x';
+    @file = (beginning($edge - 77), @ENDS);
+    $last = @file;
+    case "edge $edge: a surplus line cut by it"          => refused(7, $last + 1), @file, "xxxx\n";
+    @file = (beginning($edge - 74), @ENDS);
+    case "edge $edge: the last line feed is missing after it" => refused(2, scalar @file), unended(@file);
+    @lines = beginning($edge - 1, 9000);
+    case "edge $edge: rows end a byte before it"         => refused(7, @lines + 1), @lines;
+    @lines = beginning($edge + 1, 9000);
+    case "edge $edge: rows end a byte after it"          => refused(7, @lines + 1), @lines;
+    # The header of that ram has 81 bytes.
+    case "edge $edge: a long line cut before a row"      => '2,4,0,0', first_lines(\@RAM, 3), 'x' x ($edge - 81), @RAM[3 .. 10];
+    case "edge $edge: a long line ends before it"        => '2,4,0,0', first_lines(\@RAM, 3), 'x' x ($edge - 82), "\n", @RAM[3 .. 10];
+    case "edge $edge: a long line ends a byte after it"  => '2,4,0,0', first_lines(\@RAM, 3), 'x' x ($edge - 81), "\n", @RAM[3 .. 10];
+}
+at_edges('rows end with it'                              => 7, '', '');
+at_edges('one byte after it, unended'                    => 2, '', 'l');
+at_edges('one byte before it, unended'                   => 2, 'l', '');
+at_edges('an unended row cut by it'                      => 2, 'look,0', ',0,0,5,0,0');
+at_edges('an unended row up to it'                       => 2, 'look,0,0,0,5,0,0', '');
+at_edges('a blank line before it'                        => 2, "\n", '');
+at_edges('a blank line after it'                         => 2, '', "\n");
+at_edges('05 cut after the 0'                            => 2, 'look,0,0,0,0', "5,0,0\n");
+at_edges('05 cut before the 0'                           => 2, 'look,0,0,0,', "05,0,0\n");
+at_edges('an empty number cut before its comma'          => 2, 'look,0,0,0,', ",0,0\n");
+at_edges('p cut after five digits'                       => 3, 'look,0,0,0,21474', "83647,0,0\n");
+at_edges('p as the last number cut after one digit'      => 3, 'look,0,0,0,5,0,2', "147483647\n");
+at_edges('11 digits cut after ten'                       => 2, 'look,0,0,0,1000000000', "0,0,0\n");
+at_edges('an op cut after two letters'                   => 5, 'lo', "ox,0,0,0,5,0,0\n");
+at_edges('an op that goes on after its first letters'    => 5, 'look', "s,0,0,0,5,0,0\n");
+at_edges('an op of another memory, cut'                  => 5, 'acc', "ess,0,0,0,5,0,0\n");
+at_edges('8 fields cut before the last comma'            => 2, 'look,0,0,0,5,0,0', ",0\n");
+at_edges('6 fields cut before the line feed'             => 2, 'look,0,0,0,5,0', "\n");
+at_edges('two rows on one line, cut between them'        => 2, 'look,0,0,0,5,0,0', "look,0,0,0,5,0,0\n");
+at_edges('guard 1 before it'                             => 6, 'look,1', ",0,0,5,0,0\n");
+at_edges('guard 1 after it'                              => 6, 'look,', "1,0,0,5,0,0\n");
+# A line of 80 bytes with an op that is unknown is 5, one of 81 bytes 2, wherever the edge cuts it. Without its first or last byte the longer one would
+# be 5 too. The last cut is after the line feed.
+for my $text ('x' x 66 . ",0,0,0,0,0,100\n", 'x' x 67 . ",0,0,0,0,0,100\n") {
+    my $length = length($text) - 1;
+    for my $before (0, 1, 40, 79 .. $length + 1) {
+        at_edges("$length bytes cut after $before"       => $length > 80 ? 2 : 5, substr($text, 0, $before), substr($text, $before));
+    }
+}
+at_edges('a long line cut by it and a block later'       => 2, 'x' x 36, 'x' x (BLOCK + 100) . "\n" . $ENDS[0]);
+my @BLOCKS = (beginning(2 * BLOCK - 75), @ENDS);
 case 'edge: a refusal, then further blocks'              => '6,4,0,0', with(\@BLOCKS, 4 => 'init,1,0,5,0,0,0'), @BLOCKS;
 
 # The same answers through a pipe that is written in small pieces.
@@ -1163,7 +1194,7 @@ in_pieces('pipe: 80 bytes'                               => '5,6,0,0', with(\@RA
 in_pieces('pipe: 81 bytes'                               => '2,6,0,0', with(\@RAM, 6 => 'x' x 69 . ',0,0,0,0,0,0'));
 in_pieces('pipe: a surplus line'                         => '7,12,0,0', @RAM, "\n");
 in_pieces('pipe: 8, then garbage'                        => '8,4,0,0', @SUNK, "...\n" x 10);
-in_large_ones('pipe: 131072 bytes'                       => '0,0,6388,6388', @BLOCKS);
+in_large_ones('pipe: two blocks'                         => accepted_after(first_lines(\@BLOCKS, @BLOCKS - 3)), @BLOCKS);
 in_large_ones('pipe: a long line'                        => '2,7,0,0', first_lines(\@RAM, 6), 'x' x $LONG, "\n", @RAM[6 .. 10]);
 
 # A ram of the largest size and count, filled honestly.
