@@ -4,7 +4,7 @@ package Harness;
 use strict;
 use warnings;
 use Exporter 'import';
-use Fcntl qw(O_RDONLY O_WRONLY);
+use Fcntl qw(F_SETFL O_NONBLOCK O_RDONLY O_WRONLY SEEK_CUR);
 use File::Temp qw(tempdir);
 use POSIX ();
 
@@ -266,14 +266,15 @@ sub read_file {
     return $bytes // '';
 }
 
-# Starts the program with this open file as its standard input and gives back its process id.
+# Starts the program with this open file as its standard input, or without one that is open, and gives back its process id.
 sub start {
     my ($program, $input) = @_;
     my $process = fork() // die "fork: $!\n";
     return $process if $process;
-    POSIX::dup2(fileno($input), 0);
     open(STDOUT, '>:raw', "$folder/output") or POSIX::_exit(126);
     open(STDERR, '>:raw', "$folder/errors") or POSIX::_exit(126);
+    if   ($input) { POSIX::dup2(fileno($input), 0) }
+    else          { POSIX::close(0) }
     alarm $SECONDS;
     { no warnings 'exec'; exec {$program} $program; }
     print STDERR "$program: $!\n";
@@ -282,7 +283,7 @@ sub start {
 }
 
 # Writes the bytes into a pipe in another process: pieces of so many bytes, or lines. Short inputs are written with a pause after each piece,
-# so that the reader meets the pieces one by one.
+# so that the reader meets the pieces one by one. The process ends with 1 if a piece could not be written, as when nobody reads it any more.
 sub start_writer {
     my ($bytes, $piece, $reader, $writer) = @_;
     my $process = fork() // die "fork: $!\n";
@@ -292,15 +293,17 @@ sub start_writer {
     my @pieces = $piece eq 'line' ? lines($bytes) : unpack("(a$piece)*", $bytes);
     my $pause = @pieces <= 400 ? 0.0002 : 0;
     for my $part (@pieces) {
-        defined syswrite($writer, $part) or last;
+        my $written = syswrite($writer, $part);
+        POSIX::_exit(1) if !defined $written || $written != length $part;
         select(undef, undef, undef, $pause) if $pause;
     }
     close($writer);
     POSIX::_exit(0);
 }
 
-# What the program prints on standard output and standard error, and its wait status, for these bytes as its standard input: a file, or, with a
-# piece given, a pipe that is written in such pieces.
+# What the program prints on standard output and standard error, its wait status, and whether it left bytes unread, for these bytes as its standard
+# input: a file, or, with a piece given, a pipe that is written in such pieces. Of a file the place up to which it was read tells that; of a pipe a
+# write that failed, so that what was left in the pipe itself is not seen.
 sub run_program {
     my ($program, $bytes, $piece) = @_;
     my ($input, $writing);
@@ -313,11 +316,18 @@ sub run_program {
         open($input, '<:raw', "$folder/input") or die "input: $!\n";
     }
     my $process = start($program, $input);
-    close($input);
+    close($input) if $writing;
     waitpid($process, 0);
     my $status = $?;
-    waitpid($writing, 0) if $writing;
-    return (read_file("$folder/output"), read_file("$folder/errors"), $status);
+    my $unread;
+    if ($writing) {
+        waitpid($writing, 0);
+        $unread = $? != 0;
+    } else {
+        $unread = sysseek($input, 0, SEEK_CUR) != length $bytes;
+        close($input);
+    }
+    return (read_file("$folder/output"), read_file("$folder/errors"), $status, $unread);
 }
 
 # Counting cases.
@@ -347,39 +357,62 @@ sub counted {
     }
 }
 
-# A case: the program and the reference both print exactly what is expected, and the program writes nothing to standard error. Further
-# keys: piece, as for run_program; show, to print the input of a failed case.
+# A case: the program and the reference both print exactly what is expected, and the program reads its input to the end and writes nothing to
+# standard error. Further keys: piece, as for run_program; show, to print the input of a failed case.
 sub compare {
     my ($name, $program, $bytes, $expected, $reference, %more) = @_;
-    my ($output, $errors, $status) = run_program($program, $bytes, $more{piece});
+    my ($output, $errors, $status, $unread) = run_program($program, $bytes, $more{piece});
     my @complaints;
     push @complaints, 'expected ' . shown($expected) . ', got ' . shown($output) if $output ne $expected;
     push @complaints, 'expected ' . shown($expected) . ', the reference says ' . shown($reference) if $reference ne $expected;
     push @complaints, 'standard error is ' . shown($errors) if $errors ne '';
     push @complaints, 'ended by signal ' . ($status & 127) if $status & 127;
+    push @complaints, 'the input was not read to its end' if $unread;
     push @complaints, 'the input is ' . shown($bytes) if @complaints && $more{show};
     counted($name, @complaints);
 }
 
-# Cases: a standard input that cannot be read is told on standard error, and nothing is printed on standard output.
+sub opened {
+    my ($path, $mode) = @_;
+    sysopen(my $input, $path, $mode) or die "$path: $!\n";
+    return $input;
+}
+
+# A pipe that holds these bytes, both ends open. A read of it fails after the last byte: there is a writer, and the reader does not wait for it.
+sub failing_after {
+    my ($bytes) = @_;
+    pipe(my $input, my $writer) or die "pipe: $!\n";
+    fcntl($input, F_SETFL, O_NONBLOCK) or die "fcntl: $!\n";
+    my $written = $bytes eq '' ? 0 : syswrite($writer, $bytes);
+    die "a pipe does not take the bytes\n" if !defined $written || $written != length $bytes;
+    return ($input, $writer);
+}
+
+# Cases: a read that fails is told on standard error, and nothing is printed on standard output, whatever was read before. The bytes are a
+# short input without a fault.
 sub unreadable_input {
-    my ($program) = @_;
-    my %inputs = (
-        'standard input is a folder'                   => [$folder, O_RDONLY],
-        'standard input is not open for reading'       => ["$folder/input", O_WRONLY],
+    my ($program, $bytes) = @_;
+    write_file("$folder/input", $bytes);
+    my @inputs = (
+        ['standard input is a folder',                    opened($folder, O_RDONLY)],
+        ['standard input is not open for reading',        opened("$folder/input", O_WRONLY)],
+        ['standard input is closed',                      undef],
+        ['a read fails before the first byte',            failing_after('')],
+        ['a read fails inside the last line',             failing_after(unended($bytes))],
+        ['a read fails after the last line',              failing_after($bytes)],
+        ['a read fails after a line 1 that is refused',   failing_after("x\n$bytes")],
+        ['a read fails after a surplus line',             failing_after("$bytes\n")],
     );
-    write_file("$folder/input", '');
-    for my $name (sort keys %inputs) {
-        my ($path, $mode) = @{ $inputs{$name} };
-        sysopen(my $input, $path, $mode) or die "$path: $!\n";
+    for my $case (@inputs) {
+        my ($name, $input) = @$case;
         my $process = start($program, $input);
-        close($input);
         waitpid($process, 0);
+        my $status = $?;
         my ($output, $errors) = (read_file("$folder/output"), read_file("$folder/errors"));
         my @complaints;
         push @complaints, 'expected nothing on standard output, got ' . shown($output) if $output ne '';
         push @complaints, 'expected a message on standard error, got none' if $errors eq '';
-        push @complaints, 'ended by signal ' . ($? & 127) if $? & 127;
+        push @complaints, 'ended by signal ' . ($status & 127) if $status & 127;
         counted($name, @complaints);
     }
 }

@@ -1030,7 +1030,7 @@ for my $answer (0 .. 10) {
     counted("mutated: answer $answer is met", $times >= 5 ? () : "it is met $times times");
 }
 
-unreadable_input($program);
+unreadable_input($program, join('', @RAM));
 unwritable_output($program);
 
 # Long lines, with and without a line feed.
@@ -1196,6 +1196,16 @@ in_pieces('pipe: a surplus line'                         => '7,12,0,0', @RAM, "\
 in_pieces('pipe: 8, then garbage'                        => '8,4,0,0', @SUNK, "...\n" x 10);
 in_large_ones('pipe: two blocks'                         => accepted_after(first_lines(\@BLOCKS, @BLOCKS - 3)), @BLOCKS);
 in_large_ones('pipe: a long line'                        => '2,7,0,0', first_lines(\@RAM, 6), 'x' x $LONG, "\n", @RAM[6 .. 10]);
+
+# A refusal does not end the reading. These files are several times what a pipe holds, so that a write fails if nobody reads on.
+
+sub in_pages { through_pipe([4096], @_); }
+in_pages('pipe: line 1 refused, then six blocks'         => '1,1,0,0', "x\n", (@BLOCKS) x 3);
+in_pages('pipe: line 1 of six blocks, unended'           => '1,1,0,0', 'x' x (6 * BLOCK));
+in_pages('pipe: line 2 refused, then six blocks'         => '4,2,0,0', with([header('tape', 0, 0)], 3 => 'x'), (@BLOCKS) x 3);
+in_pages('pipe: a row refused, then six blocks'          => '6,4,0,0', with(\@RAM, 4 => 'init,1,0,5,0,0,0'), (@BLOCKS) x 3);
+in_pages('pipe: 8, then six blocks'                      => '8,4,0,0', @SUNK, (@BLOCKS) x 3);
+in_pages('pipe: a surplus line and six blocks'           => '7,12,0,0', @RAM, "\n", (@BLOCKS) x 3);
 
 # A ram of the largest size and count, filled honestly.
 

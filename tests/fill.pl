@@ -498,7 +498,7 @@ for my $answer (0 .. 7, 11 .. 13) {
     counted("mutated: answer $answer is met", $times >= 3 ? () : "it is met $times times");
 }
 
-unreadable_input($program);
+unreadable_input($program, join('', @RAM));
 unwritable_output($program);
 
 # Inputs longer than any valid one.
@@ -550,5 +550,18 @@ in_pieces('pipe: no such cell',       "answer,line\n11,7\n", with(\@RAM, 7 => 'a
 in_pieces('pipe: 128 and 128',        join('', $ROW_NAMES,
     ("init,0,0,5,0,0,0\n") x 128, (map { "look,0,0,0,5,0,$_\n" } 0 .. 127), "end,0,0,5,0,0,128\n", ("end,0,0,5,0,0,0\n") x 127),
     given('rom', 128, 128), ("init,0,0,5\n") x 128, ("look,0,0,0\n") x 128);
+
+# A refusal does not end the reading. These inputs are several times what a pipe holds, so that a write fails if nobody reads on.
+
+sub in_pages {
+    my ($name, $values, @input) = @_;
+    case($name, "answer,line\n$values\n", join('', @input), piece => 4096);
+}
+my @MANY = ("enqueue,1,0,5\n") x 30000;
+in_pages('pipe: line 1 refused, then 30000 rows'   => '1,1', "x\n", @MANY);
+in_pages('pipe: line 1 of 400000 bytes, unended'   => '1,1', 'x' x 400000);
+in_pages('pipe: line 2 refused, then 30000 rows'   => '4,2', given('queue', 0, 129), @MANY);
+in_pages('pipe: a row refused, then 30000 rows'    => '6,4', given('queue', 0, 128), rows('enqueue,2,0,5'), @MANY);
+in_pages('pipe: 30000 rows for a count of 128'     => '7,132', given('queue', 0, 128), @MANY);
 
 finish();
