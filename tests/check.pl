@@ -1,8 +1,8 @@
 #!/usr/bin/perl
 # Tests of the program `check` of document 01: files go to its standard input, and what it prints is compared to the byte.
 # A case is a name, the values that document 01 prescribes (answer,line,inputs,mults), worked out by hand, and the file. What
-# tests/Reference.pm says of the file is compared with the same values. After the named cases come mutated files, for which the
-# reference alone says what is right.
+# tests/Reference.pm says of the file is compared with the same values, but for three of the largest files. After the named cases come
+# mutated files, for which the reference alone says what is right.
 # Run at the top of the repository: perl tests/check.pl [program]
 use strict;
 use warnings;
@@ -1207,7 +1207,7 @@ in_pages('pipe: a row refused, then six blocks'          => '6,4,0,0', with(\@RA
 in_pages('pipe: 8, then six blocks'                      => '8,4,0,0', @SUNK, (@BLOCKS) x 3);
 in_pages('pipe: a surplus line and six blocks'           => '7,12,0,0', @RAM, "\n", (@BLOCKS) x 3);
 
-# A ram of the largest size and count, filled honestly.
+# A ram, a rom and a set of the largest size and count, filled honestly.
 
 sub largest_ram {
     my $size  = 65536;
@@ -1228,12 +1228,39 @@ sub largest_ram {
     return @file;
 }
 
+# A rom or a set, without equal elements.
+sub largest_table {
+    my ($memory) = @_;
+    my $size  = 65536;
+    my @cells = map { 32767 * $_ - random(32767) } 1 .. $size;
+    my @seen  = (0) x $size;
+    my @file  = (header($memory, $size, $size, @{ $CHALLENGES[4] }), map { "init,0,0,$_,0,0,0\n" } @cells);
+    for (1 .. $size) {
+        my $cell = random($size);
+        my $version = $seen[$cell]++;
+        push @file, $memory eq 'rom' ? "look,0,$cell,0,$cells[$cell],0,$version\n" : "member,0,0,$cells[$cell],0,0,$version\n";
+    }
+    return join('', @file, map { "end,0,0,$cells[$_],0,0,$seen[$_]\n" } 0 .. $size - 1);
+}
+
 my @LARGEST = largest_ram();
 case 'largest: ram'                                      => '0,0,393216,524288', @LARGEST;
 case 'largest: ram with one value changed'               => '10,262147,0,0', spoilt(4, @LARGEST);
 @LARGEST = ();
+# The reference would take more than a second for each of the cases that are stated.
+sub stated {
+    my ($name, $values, @file) = @_;
+    compare($name, $program, join('', @file), report($values), report($values));
+}
+stated 'largest: rom'                                    => '0,0,196608,262144', largest_table('rom');
+stated 'largest: set'                                    => '0,0,131072,262144', largest_table('set');
 # The depth reaches 65536.
 case 'largest: queue of enqueues'                        => '0,0,65536,196608', header('queue', 0, 65536),
     (map { "enqueue,1,0,$_,0,0,0\n" } 1 .. 65536), (map { "end,0,0,0,$_,0,0\n" } 1 .. 65536);
+stated 'largest: stack of pushes'                        => '0,0,196608,262144', header('stack', 0, 65536),
+    (map { "push,1,0,$_,0,0,0\n" } 1 .. 65536), (map { "end,0,0,0,$_,$_,0\n" } 1 .. 65536), ("range,0,0,0,0,0,0\n") x 65536;
+# The depth falls to -65536.
+case 'largest: queue of dequeues'                        => '8,65539,0,0', header('queue', 0, 65536), ("dequeue,1,0,0,0,0,0\n") x 65536;
+case 'largest: stack of pops'                            => '8,65539,0,0', header('stack', 0, 65536), ("pop,1,0,0,0,0,0\n") x 65536;
 
 finish();
