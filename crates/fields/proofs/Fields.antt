@@ -22,7 +22,7 @@ use Rattle.keys.specs.Keys.{keyOf, first, nameOf}
 use Rattle.decimal.specs.Numbers.{run, most, numberOf, numberFrom}
 use Rattle.decimal.proofs.Numbers.{run-within}
 use Rattle.keys.proofs.Names.{first-within}
-use Rattle.fields.specs.Keyed.{Taken, taken, unread, lineTaken}
+use Rattle.fields.specs.Keyed.{Taken, taken, unread, fieldsTaken}
 use Rattle.fields.proofs.Elements.{below-append}
 
 abbrev isNil : List ℕ → Bool
@@ -287,8 +287,8 @@ taken-cond false key ns = refl
 line-is :
     (total : ℕ) (text : List ℕ) (ended : Bool) (read : Option (List ℕ))
     → length text ≤ 80 → ended ≡ true → readFrom total text (length (first text)) ≡ read
-    → takenWith (keyOf (first text)) read ≡ lineTaken p total (record { text = text; ended = ended })
-unfolding lineTaken readable fitting longest numbersOf
+    → takenWith (keyOf (first text)) read ≡ fieldsTaken p total (record { text = text; ended = ended })
+unfolding fieldsTaken readable fitting longest numbersOf
 line-is total text ended read fits is reads =
     rw (
       sym reads,
@@ -350,7 +350,7 @@ module _ {total : ℕ} {text : List ℕ} {ended : Bool} {ns : List ℕ} {i at : 
         }
 
     -- or is none
-    pub reading-fails : found ≡ Unread → unread ≡ lineTaken p total (record { text = text; ended = ended })
+    pub reading-fails : found ≡ Unread → unread ≡ fieldsTaken p total (record { text = text; ended = ended })
     unfolding readFrom readOn takenWith
     reading-fails fails =
         line-is total text ended none (reading .fits) (reading .whole)
@@ -370,7 +370,7 @@ module _ {total : ℕ} {text : List ℕ} {ended : Bool} {ns : List ℕ} {i at : 
   reading-small over = reading .small ∙ ap (allBelow p) (take-all i ns (omega arith))
 
   -- and the last number ends the line, or does not
-  pub reading-ends : total ≤ i → {name : Name} → name ≡ nameOf (first text) → at ≡ length text → taken (name .key) ns below ≡ lineTaken p total (record { text = text; ended = ended })
+  pub reading-ends : total ≤ i → {name : Name} → name ≡ nameOf (first text) → at ≡ length text → taken (name .key) ns below ≡ fieldsTaken p total (record { text = text; ended = ended })
   unfolding readFrom takenWith nameOf
   reading-ends over named ends =
       ap (λ (n : Name). taken (n .key) ns below) named
@@ -378,7 +378,7 @@ module _ {total : ℕ} {text : List ℕ} {ended : Bool} {ns : List ℕ} {i at : 
       ∙ line-is total text ended (some ns) (reading .fits) (reading .whole)
       (reading-last over ∙ rw (eq-eqb at (length text) ends) (prepends-some ns [] ∙ ap some (append-nil ns)))
 
-  pub reading-over : total ≤ i → (at ≡ length text → ⊥) → unread ≡ lineTaken p total (record { text = text; ended = ended })
+  pub reading-over : total ≤ i → (at ≡ length text → ⊥) → unread ≡ fieldsTaken p total (record { text = text; ended = ended })
   unfolding readFrom takenWith
   reading-over over more =
       line-is total text ended none (reading .fits) (reading .whole)
@@ -386,10 +386,10 @@ module _ {total : ℕ} {text : List ℕ} {ended : Bool} {ns : List ℕ} {i at : 
 
 -- a line that does not fit is taken apart to none
 module _ (total : ℕ) (text : List ℕ) (ended : Bool) where
-  pub line-long : 80 < length text → unread ≡ lineTaken p total (record { text = text; ended = ended })
-  unfolding lineTaken readable fitting longest
+  pub line-long : 80 < length text → unread ≡ fieldsTaken p total (record { text = text; ended = ended })
+  unfolding fieldsTaken readable fitting longest
   line-long long = rw (lt-leb (length text) 80 long)
 
-  pub line-broken : ended ≡ false → unread ≡ lineTaken p total (record { text = text; ended = ended })
-  unfolding lineTaken readable fitting longest
+  pub line-broken : ended ≡ false → unread ≡ fieldsTaken p total (record { text = text; ended = ended })
+  unfolding fieldsTaken readable fitting longest
   line-broken is = rw (is, and-false)

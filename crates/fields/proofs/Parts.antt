@@ -10,7 +10,7 @@ use Rattle.memory.specs.Bytes.{Line, Fields, fields, numbers, allBelow, named, 
 use Rattle.keys.specs.Keys.{keyOf}
 use Rattle.fields.specs.declared.Found.{Found}
 use Rattle.fields.specs.declared.Found.the-variants.{Read, Unread}
-use Rattle.fields.specs.Keyed.{Taken, taken, unread, lineTaken, takenOf}
+use Rattle.fields.specs.Keyed.{Taken, taken, unread, fieldsTaken, takenOf}
 
 -- the fields of a line, with the key of the name in its place, or the line's fault
 pub data Keyed : Type 0 where
@@ -34,9 +34,9 @@ fields-taken false below name ns = refl
 fields-taken true true name ns = refl
 fields-taken true false name ns = refl
 
-line-taken : (k : ℕ) (line : Line) → onTaken (lineTaken p k line) ≡ byKey (fieldsOf p (suc k) line)
-unfolding lineTaken fieldsOf
-line-taken k line =
+taken-is-fields : (k : ℕ) (line : Line) → onTaken (fieldsTaken p k line) ≡ byKey (fieldsOf p (suc k) line)
+unfolding fieldsTaken fieldsOf
+taken-is-fields k line =
     let fs = fields (line .text) in
     let ns = numbers (drop 1 fs) in
     fields-taken (readable (suc k) line) (allBelow p ns) (getD fs 0 []) ns
@@ -61,15 +61,15 @@ keyed-below k line is =
     ap belowIn is ∙ fields-below (readable k line) (allBelow p ns) (getD fs 0 []) ns refl
 
 -- what an answer says, by its variant and its test
-module _ (ns : List ℕ) (k : ℕ) (line : Line) {found : Found} (says : takenOf ns found ≡ lineTaken p k line) where
+module _ (ns : List ℕ) (k : ℕ) (line : Line) {found : Found} (says : takenOf ns found ≡ fieldsTaken p k line) where
   pub says-unread : found ≡ Unread → faulty 2 ≡ byKey (fieldsOf p (suc k) line)
   unfolding takenOf onTaken
-  says-unread e = ap onTaken (rw e at says) ∙ line-taken k line
+  says-unread e = ap onTaken (rw e at says) ∙ taken-is-fields k line
 
   pub says-large : {key : ℕ} {below : Bool} → found ≡ Read key below → below ≡ false → faulty 3 ≡ byKey (fieldsOf p (suc k) line)
   unfolding takenOf onTaken
-  says-large e f = ap onTaken (rw (e, f) at says) ∙ line-taken k line
+  says-large e f = ap onTaken (rw (e, f) at says) ∙ taken-is-fields k line
 
   pub says-key : {key : ℕ} {below : Bool} → found ≡ Read key below → below ≡ true → keyed key ns ≡ byKey (fieldsOf p (suc k) line)
   unfolding takenOf onTaken
-  says-key e f = ap onTaken (rw (e, f) at says) ∙ line-taken k line
+  says-key e f = ap onTaken (rw (e, f) at says) ∙ taken-is-fields k line

@@ -15,8 +15,8 @@ pub data Taken : Type 0 where
   unread : Taken
 
 -- what a line is taken apart to that is to have a name and k numbers
-unfoldable pub lineTaken : ℕ → ℕ → Line → Taken
-lineTaken q k line =
+unfoldable pub fieldsTaken : ℕ → ℕ → Line → Taken
+fieldsTaken q k line =
     let fs = fields (line .text) in
     let ns = numbers (drop 1 fs) in
     cond (readable (suc k) line) (taken (keyOf (getD fs 0 [])) ns (allBelow q ns)) unread

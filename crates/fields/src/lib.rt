@@ -3,7 +3,7 @@
 ghost use mathlib.Core.Path.{_≡_};
 ghost use lib.ListN.{length};
 ghost use Rattle.field.specs.Field.{p};
-ghost use Rattle.fields.specs.Keyed.{takenOf, lineTaken};
+ghost use Rattle.fields.specs.Keyed.{takenOf, fieldsTaken};
 use decimal::Number;
 use field::Field;
 
@@ -22,7 +22,7 @@ pub enum Found {
 
 // What a line reads as that is to have a name and as many numbers as are lent.
 pub fn read(text: &[u8], ended: bool, numbers: &mut [u64]) -> Found
-    ensures { λ r. ⌜ takenOf (now (numbers .exit)) r ≡ lineTaken p (length (now (numbers .entry))) (record { text = now (text .entry); ended = ended }) ⌝ }
+    ensures { λ r. ⌜ takenOf (now (numbers .exit)) r ≡ fieldsTaken p (length (now (numbers .entry))) (record { text = now (text .entry); ended = ended }) ⌝ }
 {
     if LONGEST < text.len() || !ended {
         return Found::Unread;
