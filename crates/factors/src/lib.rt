@@ -68,14 +68,12 @@ fn access(ch: Challenge, c: Context, row: Row, ps: Products) -> Products
 {
     let clock = clock(c);
     let age = ages::age(clock, row.time);
-    Products {
-        written: by_triple(ch, ps.written, row.addr, chosen(row), clock),
-        read: by_triple(ch, ps.read, row.addr, row.old, row.time),
-        supplied: by_pair(ch, ps.supplied, age, Field::add(row.version, 1)),
-        looked: by_pair(ch, ps.looked, age, row.version),
-        enqueued: ps.enqueued,
-        dequeued: ps.dequeued,
-    }
+    let mut o = ps;
+    o.written = by_triple(ch, ps.written, row.addr, chosen(row), clock);
+    o.read = by_triple(ch, ps.read, row.addr, row.old, row.time);
+    o.supplied = by_pair(ch, ps.supplied, age, Field::add(row.version, 1));
+    o.looked = by_pair(ch, ps.looked, age, row.version);
+    o
 }
 
 // "Look reads (addr, old, version) and writes (addr, old, version + 1)."
@@ -83,20 +81,16 @@ fn look(ch: Challenge, c: Context, row: Row, ps: Products) -> Products
     requires { ⌜ row .op ≡ Op.Look ⌝ }
     ensures { λ r. ⌜ r ≡ multiply p ch c row ps ⌝ }
 {
-    Products {
-        written: by_triple(
-            ch,
-            ps.written,
-            row.addr,
-            row.old,
-            Field::add(row.version, 1),
-        ),
-        read: by_triple(ch, ps.read, row.addr, row.old, row.version),
-        supplied: ps.supplied,
-        looked: ps.looked,
-        enqueued: ps.enqueued,
-        dequeued: ps.dequeued,
-    }
+    let mut o = ps;
+    o.written = by_triple(
+        ch,
+        ps.written,
+        row.addr,
+        row.old,
+        Field::add(row.version, 1),
+    );
+    o.read = by_triple(ch, ps.read, row.addr, row.old, row.version);
+    o
 }
 
 // A set's lookup: "The same with pairs (value, version)".
@@ -104,14 +98,10 @@ fn member(ch: Challenge, c: Context, row: Row, ps: Products) -> Products
     requires { ⌜ row .op ≡ Op.Member ⌝ }
     ensures { λ r. ⌜ r ≡ multiply p ch c row ps ⌝ }
 {
-    Products {
-        written: by_pair(ch, ps.written, row.value, Field::add(row.version, 1)),
-        read: by_pair(ch, ps.read, row.value, row.version),
-        supplied: ps.supplied,
-        looked: ps.looked,
-        enqueued: ps.enqueued,
-        dequeued: ps.dequeued,
-    }
+    let mut o = ps;
+    o.written = by_pair(ch, ps.written, row.value, Field::add(row.version, 1));
+    o.read = by_pair(ch, ps.read, row.value, row.version);
+    o
 }
 
 // "Push adds guard to depth, writes (depth, value, clock) if guard is 1"
@@ -123,20 +113,15 @@ fn push(ch: Challenge, c: Context, row: Row, ps: Products) -> Products
         return ps;
     }
     let clock = Field::add(c.pushed, 1);
-    Products {
-        written: by_triple(
-            ch,
-            ps.written,
-            Field::sub(clock, c.popped),
-            row.value,
-            clock,
-        ),
-        read: ps.read,
-        supplied: ps.supplied,
-        looked: ps.looked,
-        enqueued: ps.enqueued,
-        dequeued: ps.dequeued,
-    }
+    let mut o = ps;
+    o.written = by_triple(
+        ch,
+        ps.written,
+        Field::sub(clock, c.popped),
+        row.value,
+        clock,
+    );
+    o
 }
 
 // "An executed enqueue or dequeue makes its hash h·r + element."
@@ -147,14 +132,9 @@ fn enqueue(ch: Challenge, c: Context, row: Row, ps: Products) -> Products
     if row.guard != 1 {
         return ps;
     }
-    Products {
-        written: ps.written,
-        read: ps.read,
-        supplied: ps.supplied,
-        looked: ps.looked,
-        enqueued: Field::horner(ps.enqueued, ch.r, row.value),
-        dequeued: ps.dequeued,
-    }
+    let mut o = ps;
+    o.enqueued = Field::horner(ps.enqueued, ch.r, row.value);
+    o
 }
 
 // The products and hashes after a row.

@@ -64,14 +64,9 @@ pub fn dequeue(ch: Challenge, c: Context, row: Row, ps: Products) -> Products
     ensures { λ r. ⌜ r ≡ multiply p ch c row ps ⌝ }
 {
     let memory = c.memory;
-    Products {
-        written: ps.written,
-        read: ps.read,
-        supplied: ps.supplied,
-        looked: ps.looked,
-        enqueued: ps.enqueued,
-        dequeued: left(memory, row.guard == 1, ps.dequeued, ch.r, row.old),
-    }
+    let mut o = ps;
+    o.dequeued = left(memory, row.guard == 1, ps.dequeued, ch.r, row.old);
+    o
 }
 
 // "End reads (address, old, time)" or "(address, value, version)", a set's pair, "(i, old, time), i from 1 to D".
@@ -97,14 +92,10 @@ pub fn end(ch: Challenge, c: Context, row: Row, ps: Products) -> Products
     ensures { λ r. ⌜ r ≡ multiply p ch c row ps ⌝ }
 {
     let memory = c.memory;
-    Products {
-        written: ps.written,
-        read: end_read(ch, c, row, ps.read),
-        supplied: ps.supplied,
-        looked: ps.looked,
-        enqueued: ps.enqueued,
-        dequeued: left(memory, true, ps.dequeued, ch.r, row.old),
-    }
+    let mut o = ps;
+    o.read = end_read(ch, c, row, ps.read);
+    o.dequeued = left(memory, true, ps.dequeued, ch.r, row.old);
+    o
 }
 
 // "A set holding 1 to T, set up at version 0": the setup of a number comes with its row.
@@ -113,12 +104,8 @@ pub fn range(ch: Challenge, c: Context, row: Row, ps: Products) -> Products
     ensures { λ r. ⌜ r ≡ multiply p ch c row ps ⌝ }
 {
     let number = Field::add(range_place(c), 1);
-    Products {
-        written: ps.written,
-        read: ps.read,
-        supplied: by_pair(ch, ps.supplied, number, 0),
-        looked: by_pair(ch, ps.looked, number, row.version),
-        enqueued: ps.enqueued,
-        dequeued: ps.dequeued,
-    }
+    let mut o = ps;
+    o.supplied = by_pair(ch, ps.supplied, number, 0);
+    o.looked = by_pair(ch, ps.looked, number, row.version);
+    o
 }
