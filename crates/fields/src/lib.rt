@@ -14,7 +14,7 @@ pub const LONGEST: usize = 80;
 const P: u64 = Field::MODULUS as u64;
 
 // What a line reads as: the key of its name, and whether its numbers, which are in the slice that was lent, are all below p (3 where they are not). `Unread` is 2;
-// which numbers the slice then holds is free.
+// which numbers the slice then holds is free; it is as long as it was.
 pub enum Found {
     Read { key: u64, below: bool },
     Unread,
@@ -22,7 +22,8 @@ pub enum Found {
 
 // What a line reads as that is to have a name and as many numbers as are lent.
 pub fn read(text: &[u8], ended: bool, numbers: &mut [u64]) -> Found
-    ensures { λ r. ⌜ takenOf (now (numbers .exit)) r ≡ fieldsTaken p (length (now (numbers .entry))) (record { text = now (text .entry); ended = ended }) ⌝ }
+    ensures answer { λ r. ⌜ takenOf (now (numbers .exit)) r ≡ fieldsTaken p (length (now (numbers .entry))) (record { text = now (text .entry); ended = ended }) ⌝ }
+    ensures many { λ _. ⌜ length (now (numbers .exit)) ≡ length (now (numbers .entry)) ⌝ }
 {
     if LONGEST < text.len() || !ended {
         return Found::Unread;

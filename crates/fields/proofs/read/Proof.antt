@@ -1,6 +1,7 @@
 -- `fields::read` meets its contract. The loop's invariant: the numbers that were passed are in the slice, it is known whether they are below p, and those that are left are still to be read.
 -- Assumes nothing.
 use Prim.Native.Nat.{_-_}
+use mathlib.Core.Path.{refl}
 use mathlib.Core.Logic.{⊎-elim}
 use native.Mathlib.Omega.{arith}
 use lib.ListN.{length, length-set}
@@ -20,11 +21,13 @@ abbrev μ-loop : tie.MeasureT-loop
 
 returns : tie.Need-returns Inv-loop μ-loop
 unfolding takenOf
-returns c =
-    ⊎-elim
-    (λ w. line-long _ _ _ (w .taken))
-    (λ w. line-broken _ _ _ (not-true _ (w .1 .taken)))
-    (c .if1 .came)
+returns c = (
+  ⊎-elim
+      (λ w. line-long _ _ _ (w .taken))
+      (λ w. line-broken _ _ _ (not-true _ (w .1 .taken)))
+      (c .if1 .came),
+  refl,
+)
 
 name-of-requires : tie.Need-name-of-requires Inv-loop μ-loop
 name-of-requires c κs = search needs
@@ -48,7 +51,7 @@ returns-2 : tie.Need-returns-2 Inv-loop μ-loop
 unfolding takenOf
 returns-2 c =
     let l = c .before .before .before .before .loop .inv in
-    reading-fails l (omega arith) (c .before .before .number-at .ensures) (c .enum-told .given .1)
+    (reading-fails l (omega arith) (c .before .before .number-at .ensures) (c .enum-told .given .1), l .many)
 
 mul-numbers : tie.Need-mul-numbers Inv-loop μ-loop
 mul-numbers c = search needs
@@ -73,14 +76,15 @@ same-length-2 c = c .before .before .loop .inv .many
 
 returns-3 : tie.Need-returns-3 Inv-loop μ-loop
 unfolding takenOf
-returns-3 c = reading-over (c .before .before .loop .inv) (omega arith) (c .if3 .taken)
+returns-3 c = (reading-over (c .before .before .loop .inv) (omega arith) (c .if3 .taken), c .before .before .loop .inv .many)
 
 same-length-3 : tie.Need-same-length-3 Inv-loop μ-loop
 same-length-3 c = c .before .before .loop .inv .many
 
 returns-4 : tie.Need-returns-4 Inv-loop μ-loop
 unfolding takenOf
-returns-4 c = reading-ends (c .before .before .loop .inv) (omega arith) (c .before .before .before .name-of .ensures) (c .if3 .left)
+returns-4 c =
+    (reading-ends (c .before .before .loop .inv) (omega arith) (c .before .before .before .name-of .ensures) (c .if3 .left), c .before .before .loop .inv .many)
 
 pub read-spec : {M : Type 1} → statement M
 read-spec =
