@@ -15,17 +15,18 @@ use Rattle.algebra.proofs.Mersenne.{prime-p}
 use Rattle.field.specs.Field.{p}
 use Rattle.memory.specs.declared.Memory.{Memory}
 use Rattle.memory.specs.declared.Memory.the-variants.{Ram, Rom, Set, Stack, Queue}
+use Rattle.memory.specs.declared.Parsed.{Parsed}
 use Rattle.memory.specs.declared.Challenge.{Challenge}
-use Rattle.memory.specs.Bytes.{Line, allBelow}
+use Rattle.memory.specs.Bytes.{allBelow}
 use Rattle.memory.specs.Rows.{limit, sized, allowed}
-use Rattle.memory.specs.File.{firstFault, parseRows, valuesFault}
-use Rattle.runs.specs.Plain.{right}
-use Rattle.memory.specs.Bound.{accepts, challenges, malformed, degree, rowsIn}
-use Rattle.runs.specs.Advised.{traceIn}
+use Rattle.memory.specs.File.{firstFault, rowsOf, valuesFault}
+use Rattle.runs.specs.Plain.{right, traceOf}
+use Rattle.memory.specs.Bound.{accepts, challenges, malformed, degree}
 use Rattle.memory.specs.Statements.{Holds}
 use Rattle.demands.specs.Statements.{Demand, DemandAt, DemandThree}
 use Rattle.demands.proofs.Balance.{challenges-none}
-use Rattle.memory.proofs.ReadRows.{both-pass, chosen-zero, lines-below}
+use Rattle.memory.proofs.ReadRows.{both-pass, chosen-zero}
+use Rattle.memory.proofs.Phases.{no-fault-below}
 use Rattle.demands.proofs.WellFormed.{no-fault-well-formed}
 use Rattle.demands.proofs.WrongTrace.{right-or-rare}
 use Rattle.memory.proofs.Fold.{accepts-exactly-when}
@@ -49,14 +50,14 @@ values-allowed q m n t ch e =
 
 -- the equations hold of no malformed rows
 holds-not-malformed :
-    (q : ℕ) (m : Memory) (n t : ℕ) (ch : Challenge) (lines : List Line) → Holds q m n t ch lines → malformed q m n t lines ≡ false
+    (q : ℕ) (m : Memory) (n t : ℕ) (ch : Challenge) (xs : List Parsed) → Holds q m n t ch xs → malformed q m n t xs ≡ false
 unfolding malformed
-holds-not-malformed q m n t ch lines holds = rw (values-allowed q m n t ch (holds .values), holds .rows) refl
+holds-not-malformed q m n t ch xs holds = rw (values-allowed q m n t ch (holds .values), holds .rows) refl
 
 -- what is not malformed has an allowed size and count
-well-sized : (q : ℕ) (m : Memory) (n t : ℕ) (lines : List Line) → malformed q m n t lines ≡ false → allowed m n t ≡ true
+well-sized : (q : ℕ) (m : Memory) (n t : ℕ) (xs : List Parsed) → malformed q m n t xs ≡ false → allowed m n t ≡ true
 unfolding malformed
-well-sized q m n t lines e = go (allBelow q (n ∷ t ∷ [])) (allowed m n t) _ e
+well-sized q m n t xs e = go (allBelow q (n ∷ t ∷ [])) (allowed m n t) _ e
   where
     go : (a b c : Bool) → (not (a && b) || c) ≡ false → b ≡ true
     go true true c e = refl
@@ -88,45 +89,44 @@ by-test false passes fails = fails refl
 
 -- incomplete or malformed rows are accepted by no challenge
 pub malformed-not-accepted :
-    (q : ℕ) (m : Memory) (n t : ℕ) (lines : List Line) → 2 ≤ q → malformed q m n t lines ≡ true
-    → (ch : Challenge) → accepts q m n t lines ch ≡ false
-malformed-not-accepted q m n t lines two bad ch =
-    by-test (accepts q m n t lines ch)
+    (q : ℕ) (m : Memory) (n t : ℕ) (xs : List Parsed) → 2 ≤ q → malformed q m n t xs ≡ true
+    → (ch : Challenge) → accepts q m n t xs ch ≡ false
+malformed-not-accepted q m n t xs two bad ch =
+    by-test (accepts q m n t xs ch)
     (λ accepted.
-    let holds = accepts-exactly-when q m n t ch lines two .0 accepted in
-    absurd (true≢false (sym bad ∙ holds-not-malformed q m n t ch lines holds)))
+    let holds = accepts-exactly-when q m n t ch xs two .0 accepted in
+    absurd (true≢false (sym bad ∙ holds-not-malformed q m n t ch xs holds)))
     (λ refused. refused)
 
 -- nor are rows that meet 8
 fault-not-accepted :
-    (q : ℕ) (m : Memory) (n t : ℕ) (lines : List Line) → 2 ≤ q → firstFault q m n t [] (parseRows q lines) .number ≡ 8
-    → (ch : Challenge) → accepts q m n t lines ch ≡ false
-fault-not-accepted q m n t lines two fault ch =
-    by-test (accepts q m n t lines ch)
-    (λ accepted. let holds = accepts-exactly-when q m n t ch lines two .0 accepted in absurd (omega (arith, fault, holds .rows)))
+    (q : ℕ) (m : Memory) (n t : ℕ) (xs : List Parsed) → 2 ≤ q → firstFault q m n t [] xs .number ≡ 8
+    → (ch : Challenge) → accepts q m n t xs ch ≡ false
+fault-not-accepted q m n t xs two fault ch =
+    by-test (accepts q m n t xs ch)
+    (λ accepted. let holds = accepts-exactly-when q m n t ch xs two .0 accepted in absurd (omega (arith, fault, holds .rows)))
     (λ refused. refused)
 
 -- a wrong trace is accepted by at most m · q ^ 3 challenges, whatever the advice
 pub wrong-trace-bound :
-    (q : ℕ) (m : Memory) (n t : ℕ) (lines : List Line) → Prime q → 2 * t ≤ q → t + 1 < q → n ≤ q
-    → malformed q m n t lines ≡ false → right (traceIn q m n t lines) ≡ false
-    → challenges q (accepts q m n t lines) ≤ degree m n t (rowsIn q lines) * q ^ 3
-unfolding traceIn rowsIn
-wrong-trace-bound q m n t lines prime wide room small good wrong = go (ℕ-discrete (firstFault q m n t [] (parseRows q lines) .number) 0)
+    (q : ℕ) (m : Memory) (n t : ℕ) (xs : List Parsed) → Prime q → 2 * t ≤ q → t + 1 < q → n ≤ q
+    → malformed q m n t xs ≡ false → right (traceOf m n t (rowsOf xs)) ≡ false
+    → challenges q (accepts q m n t xs) ≤ degree m n t (rowsOf xs) * q ^ 3
+wrong-trace-bound q m n t xs prime wide room small good wrong = go (ℕ-discrete (firstFault q m n t [] xs .number) 0)
   where
-    holds : (ch : Challenge) → accepts q m n t lines ch ≡ true → Holds q m n t ch lines
-    holds ch = accepts-exactly-when q m n t ch lines (prime .two) .0
+    holds : (ch : Challenge) → accepts q m n t xs ch ≡ true → Holds q m n t ch xs
+    holds ch = accepts-exactly-when q m n t ch xs (prime .two) .0
 
     go :
-        Dec (firstFault q m n t [] (parseRows q lines) .number ≡ 0)
-        → challenges q (accepts q m n t lines) ≤ degree m n t (rowsIn q lines) * q ^ 3
-    go (no fault) = omega (arith, challenges-none q (accepts q m n t lines) (λ ch accepted. fault (holds ch accepted .rows)))
+        Dec (firstFault q m n t [] xs .number ≡ 0)
+        → challenges q (accepts q m n t xs) ≤ degree m n t (rowsOf xs) * q ^ 3
+    go (no fault) = omega (arith, challenges-none q (accepts q m n t xs) (λ ch accepted. fault (holds ch accepted .rows)))
     go (yes e) =
         elim
-        (right-or-rare q m n t (rowsIn q lines) (accepts q m n t lines) prime wide room small
-        (allowed-sized m n t (well-sized q m n t lines good) .0)
-        (lines-below q lines (omega (arith, prime .two)))
-        (no-fault-well-formed q m n t (parseRows q lines) e)
+        (right-or-rare q m n t (rowsOf xs) (accepts q m n t xs) prime wide room small
+        (allowed-sized m n t (well-sized q m n t xs good) .0)
+        (no-fault-below q m n t [] xs e)
+        (no-fault-well-formed q m n t xs e)
         (λ ch accepted. (holds ch accepted .range, holds ch accepted .memory))) [
           | inl fits ↦ absurd (true≢false (sym fits ∙ wrong))
           | inr few ↦ few
@@ -134,37 +134,37 @@ wrong-trace-bound q m n t lines prime wide room small good wrong = go (ℕ-discr
 
 -- Demand 3 for any prime with room
 pub demand-at : DemandAt
-demand-at q m n t lines prime wide room small = record {
-  incomplete = malformed-not-accepted q m n t lines (prime .two);
-  depth = fault-not-accepted q m n t lines (prime .two);
+demand-at q m n t xs prime wide room small = record {
+  incomplete = malformed-not-accepted q m n t xs (prime .two);
+  depth = fault-not-accepted q m n t xs (prime .two);
   wrong =
-      λ good wrong. doubled (challenges q (accepts q m n t lines)) (degree m n t (rowsIn q lines)) (q ^ 3)
-      (wrong-trace-bound q m n t lines prime wide room small good wrong);
-  sharp = wrong-trace-bound q m n t lines prime wide room small;
-  honest = honest-clause q m n t lines prime room;
+      λ good wrong. doubled (challenges q (accepts q m n t xs)) (degree m n t (rowsOf xs)) (q ^ 3)
+      (wrong-trace-bound q m n t xs prime wide room small good wrong);
+  sharp = wrong-trace-bound q m n t xs prime wide room small;
+  honest = honest-clause q m n t xs prime room;
 }
 
 -- rows with a size or count that is not allowed are malformed, so only the first clause says something of them
 demand-of-malformed :
-    (q : ℕ) (m : Memory) (n t : ℕ) (lines : List Line) → 2 ≤ q → allowed m n t ≡ false → Demand q m n t lines
-demand-of-malformed q m n t lines two over = record {
-  incomplete = malformed-not-accepted q m n t lines two;
-  depth = fault-not-accepted q m n t lines two;
+    (q : ℕ) (m : Memory) (n t : ℕ) (xs : List Parsed) → 2 ≤ q → allowed m n t ≡ false → Demand q m n t xs
+demand-of-malformed q m n t xs two over = record {
+  incomplete = malformed-not-accepted q m n t xs two;
+  depth = fault-not-accepted q m n t xs two;
   wrong = λ good. absurd (impossible good);
   sharp = λ good. absurd (impossible good);
   honest = λ good. absurd (impossible good);
 }
   where
-    impossible : malformed q m n t lines ≡ false → ⊥
-    impossible good = true≢false (sym (well-sized q m n t lines good) ∙ over)
+    impossible : malformed q m n t xs ≡ false → ⊥
+    impossible good = true≢false (sym (well-sized q m n t xs good) ∙ over)
 
 -- Demand 3
 pub demand-three : DemandThree
 unfolding p limit
-demand-three m n t lines =
+demand-three m n t xs =
     by-test (allowed m n t)
     (λ fine.
     let count : t ≤ limit = allowed-sized m n t fine .1 in
     let size : n ≤ limit = sized-limit m n (allowed-sized m n t fine .0) in
-    demand-at p m n t lines prime-p (omega arith) (omega arith) (omega arith))
-    (λ over. demand-of-malformed p m n t lines (prime-p .two) over)
+    demand-at p m n t xs prime-p (omega arith) (omega arith) (omega arith))
+    (λ over. demand-of-malformed p m n t xs (prime-p .two) over)

@@ -3,7 +3,7 @@
 use Prim.Native.Nat.{ℕ, zero, suc, _+_, _≤_, _<_}
 use native.Mathlib.Omega.{arith}
 use mathlib.Core.Path.{_≡_, refl}
-use mathlib.Core.Bool.{Bool, true, false, cond}
+use mathlib.Core.Bool.{true, false}
 use mathlib.Core.List.{List, [], _∷_, _++_, map}
 use lib.Dec.{eqb, ltb}
 use lib.ListN.{length, getD, drop, set}
@@ -20,7 +20,7 @@ use Rattle.memory.specs.Names.{opCode, isOp}
 use Rattle.memory.specs.Rows.{opsDue, opIn, rowBelow}
 use Rattle.runs.specs.Plain.{among}
 use Rattle.runs.specs.Honest.{Input, filledRow, bare, endRow, rangeRow, occurrences, rangeRowsFrom, Cell, cell, cellAt, ramAge, ramRow, ramCells, ramEnds, ramFrom, romEndsFrom, romFrom, setEndsFrom, setFrom, topCell, stackEnds, popTime, popRow, stackFrom, queueFrom, operationsFilled, filledRows}
-use Rattle.memory.proofs.ReadFields.{decided}
+use Rattle.memory.proofs.ReadFields.{chosen}
 use Rattle.memory.proofs.ReadRows.{both-pass, RowsBelow, row-below}
 use Rattle.memory.proofs.Operations.{not-among, other-not-due}
 use Rattle.memory.proofs.Phases.{formed-guard}
@@ -28,10 +28,6 @@ use Rattle.runs.proofs.Lengths.{columnsOf}
 use Rattle.demands.proofs.RoundTrip.{Printable, AllPrintable}
 use Rattle.runs.proofs.HonestLookups.{All, occurs-at-most}
 use Rattle.demands.proofs.Advice.{DueInput, DueInputs, valuesOf, Unrefused}
-
--- What holds of both choices holds of the chosen one.
-chosen : {A : Type 0} (P : A → Type 0) (b : Bool) {x y : A} → P x → P y → P (cond b x y)
-chosen P b px py = decided P b (λ e. px) py
 
 -- what holds of every entry of a list, and of the default, holds of an entry by its place
 all-at : {A : Type 0} (P : A → Type 0) (xs : List A) (i : ℕ) (d : A) → All P xs → P d → P (getD xs i d)

@@ -20,25 +20,26 @@ use Rattle.memory.specs.declared.Row.{Row}
 use Rattle.memory.specs.declared.Parsed.{Parsed}
 use Rattle.memory.specs.declared.Parsed.the-variants.{Sound, Fault}
 use Rattle.memory.specs.declared.Challenge.{Challenge}
-use Rattle.memory.specs.Bytes.{Line, allBelow}
+use Rattle.memory.specs.Bytes.{allBelow}
 use Rattle.memory.specs.Rows.{allowed, opsDue, opIn}
 use Rattle.memory.specs.Equations.{Lists, listsOf, shuffleLists, rangedLists, fileLists, rangeBalances, memoryBalances}
-use Rattle.memory.specs.File.{noRow, parsedRow, rowsOf, parseRows, Refusal, refusal, firstFault, valuesFault}
-use Rattle.runs.specs.Plain.{start, right}
+use Rattle.memory.specs.File.{noRow, parsedRow, rowsOf, Refusal, refusal, firstFault, valuesFault}
+use Rattle.runs.specs.Plain.{start, right, traceOf}
 use Rattle.runs.specs.Honest.{Input, inputOf, bare, filledRows, possible}
-use Rattle.memory.specs.Bound.{elements, accepts, malformed, rowsIn}
-use Rattle.runs.specs.Advised.{traceIn, Advised}
+use Rattle.memory.specs.Bound.{elements, accepts, malformed}
+use Rattle.runs.specs.Advised.{Advised}
 use Rattle.memory.specs.Statements.{Holds}
 use Rattle.runs.proofs.HonestLookups.{rom-complete, set-complete}
 use Rattle.runs.proofs.RamComplete.{ram-complete, ram-range-complete}
 use Rattle.runs.proofs.StackComplete.{stack-balance, stack-range}
 use Rattle.runs.proofs.QueueComplete.{queue-balance}
 use Rattle.demands.proofs.Balance.{often-balances}
-use Rattle.memory.proofs.ReadRows.{both-pass, lines-below}
+use Rattle.memory.proofs.ReadRows.{both-pass, RowsBelow}
 use Rattle.memory.proofs.Operations.{other-not-due}
 use Rattle.memory.proofs.Fold.{accepts-exactly-when}
 use Rattle.memory.proofs.Phases.{DueRows, Parts, parts-no-fault}
 use Rattle.demands.proofs.Advice.{FilledRows, advised-rows, DueInputs, Unrefused, no-refusal, valuesOf}
+use Rattle.demands.proofs.FilledBelow.{filled-below}
 use Rattle.demands.proofs.HonestRows.{honestOps, honestEnds, honestRanges, due-inputs, filled-parts, filled-lists}
 
 -- lists whose records are equally often on both sides of each shuffle, and whose hashed elements are the same
@@ -87,7 +88,8 @@ pub filled-balances : (q : ℕ) (m : Memory) (n t : ℕ) (inits ops : List Input
 filled-balances q m n t inits ops ch prime room size count u =
     balancing-balances q ch (fileLists q m n t (filledRows m t inits ops)) (filled-balancing q m n t inits ops prime room size count u)
 
--- Rows of the four phases have ops of document 01, so lines that read as them read as no fault: the rows of phases, one after the other
+-- Rows of the four phases have ops of document 01, so a list that has them for its rows has no
+-- fault: the rows of phases, one after the other
 abbrev DueSomewhere : Memory → List Row → Type 0
 DueSomewhere m [] = Unit {0}
 DueSomewhere m (row ∷ rows) = ((p : Phase) × (opIn (row .op) (opsDue m p) ≡ true)) × DueSomewhere m rows
@@ -104,28 +106,31 @@ parts-due q m n t rows p =
     (due-then m Ending (p .ends) (p .ranges) (p .ending)
     (subst (DueSomewhere m) (append-nil (p .ranges)) (due-then m Ranging (p .ranges) [] (p .ranging) tt)))))
 
--- a fault reads as a row of no op, which is due nowhere
+-- a fault stands for a row of no op, which is due nowhere
 due-sound : (m : Memory) (xs : List Parsed) → DueSomewhere m (rowsOf xs) → xs ≡ map Sound (rowsOf xs)
 unfolding rowsOf parsedRow noRow
 due-sound m [] due = refl
 due-sound m (Sound row ∷ xs) due = ap {B = List Parsed} (λ l. Sound row ∷ l) (due-sound m xs (due .1))
 due-sound m (Fault f ∷ xs) due = absurd (false≢true (sym (other-not-due m (due .0 .0)) ∙ due .0 .1))
 
--- lines that read as the rows of the four phases meet no fault
-parts-lines : (q : ℕ) (m : Memory) (n t : ℕ) (lines : List Line) → 0 < q → Parts q m n t (rowsIn q lines) → firstFault q m n t [] (parseRows q lines) .number ≡ 0
-unfolding rowsIn refusal
-parts-lines q m n t lines positive p =
-    ap (λ (xs : List Parsed). firstFault q m n t [] xs .number) (due-sound m (parseRows q lines) (parts-due q m n t (rowsIn q lines) p))
-    ∙ ap (λ (f : Refusal). f .number) (parts-no-fault q m n t (rowsIn q lines) (lines-below q lines positive) p)
+-- a list of the rows of the four phases, with their numbers below q, meets no fault
+parts-parsed : (q : ℕ) (m : Memory) (n t : ℕ) (xs : List Parsed) → RowsBelow q (rowsOf xs) → Parts q m n t (rowsOf xs) → firstFault q m n t [] xs .number ≡ 0
+unfolding refusal
+parts-parsed q m n t xs below p =
+    ap (λ (ys : List Parsed). firstFault q m n t [] ys .number) (due-sound m xs (parts-due q m n t (rowsOf xs) p))
+    ∙ ap (λ (f : Refusal). f .number) (parts-no-fault q m n t (rowsOf xs) below p)
 
--- rows whose advice is the filler's are the rows of the four phases, and their lists balance
+-- rows whose advice is the filler's are the rows of the four phases, with their numbers below q,
+-- and their lists balance
 record Advice (q : ℕ) (m : Memory) (n t : ℕ) (rows : List Row) : Type 0 where
+  below : RowsBelow q rows
   parts : Parts q m n t rows
   balancing : Balancing (fileLists q m n t rows)
 
 filled-advice : (q : ℕ) (m : Memory) (n t : ℕ) (rows : List Row) → Prime q → t + 1 < q → FilledRows q m n t rows → Advice q m n t rows
 filled-advice q m n t rows prime room f =
     subst (Advice q m n t) (sym (f .filled)) (record {
+      below = filled-below q m t inits ops room count u;
       parts = filled-parts q m n t inits ops prime room size count u;
       balancing = filled-balancing q m n t inits ops prime room size count u;
     })
@@ -150,9 +155,9 @@ neither : (x y : Bool) → (x || y) ≡ false → x ≡ false
 neither true y e = e
 neither false y e = refl
 
-well-sized : (q : ℕ) (m : Memory) (n t : ℕ) (lines : List Line) → malformed q m n t lines ≡ false → (allBelow q (n ∷ t ∷ []) ≡ true) × (allowed m n t ≡ true)
+well-sized : (q : ℕ) (m : Memory) (n t : ℕ) (xs : List Parsed) → malformed q m n t xs ≡ false → (allBelow q (n ∷ t ∷ []) ≡ true) × (allowed m n t ≡ true)
 unfolding malformed
-well-sized q m n t lines e =
+well-sized q m n t xs e =
     both-pass (allBelow q (n ∷ t ∷ [])) (allowed m n t) (not-false (allBelow q (n ∷ t ∷ []) && allowed m n t) (neither (not (allBelow q (n ∷ t ∷ []) && allowed m n t)) _ e))
 
 pub values-pass : (q : ℕ) (m : Memory) (n t : ℕ) (ch : Challenge) → allBelow q (n ∷ t ∷ []) ≡ true → allowed m n t ≡ true
@@ -165,22 +170,22 @@ values-pass q m n t ch below fit inside =
     rw (size .0, count .0, inside, fit)
 
 -- rows whose advice is the filler's meet the equations at every challenge; that the trace is right need not be supposed, since the filler fills no other runs
-pub advised-holds : (q : ℕ) (m : Memory) (n t : ℕ) (lines : List Line) → Prime q → t + 1 < q → malformed q m n t lines ≡ false → Advised q m n t (rowsIn q lines)
-    → (ch : Challenge) → elements q ch ≡ true → Holds q m n t ch lines
-advised-holds q m n t lines prime room formed a ch inside =
-    let fit = well-sized q m n t lines formed in
-    let advice = filled-advice q m n t (rowsIn q lines) prime room (advised-rows q m n t (rowsIn q lines) a) in
-    let balances = balancing-balances q ch (fileLists q m n t (rowsIn q lines)) (advice .balancing) in
+pub advised-holds : (q : ℕ) (m : Memory) (n t : ℕ) (xs : List Parsed) → Prime q → t + 1 < q → malformed q m n t xs ≡ false → Advised q m n t (rowsOf xs)
+    → (ch : Challenge) → elements q ch ≡ true → Holds q m n t ch xs
+advised-holds q m n t xs prime room formed a ch inside =
+    let fit = well-sized q m n t xs formed in
+    let advice = filled-advice q m n t (rowsOf xs) prime room (advised-rows q m n t (rowsOf xs) a) in
+    let balances = balancing-balances q ch (fileLists q m n t (rowsOf xs)) (advice .balancing) in
     record {
       values = values-pass q m n t ch (fit .0) (fit .1) inside;
-      rows = parts-lines q m n t lines (omega arith) (advice .parts);
+      rows = parts-parsed q m n t xs (advice .below) (advice .parts);
       range = balances .0;
       memory = balances .1;
     }
 
 -- the clause of demand 3 on a right trace whose advice is the filler's
-pub honest-clause : (q : ℕ) (m : Memory) (n t : ℕ) (lines : List Line) → Prime q → t + 1 < q
-    → malformed q m n t lines ≡ false → right (traceIn q m n t lines) ≡ true → Advised q m n t (rowsIn q lines)
-    → (ch : Challenge) → elements q ch ≡ true → accepts q m n t lines ch ≡ true
-honest-clause q m n t lines prime room formed fit a ch inside =
-    accepts-exactly-when q m n t ch lines (omega arith) .1 (advised-holds q m n t lines prime room formed a ch inside)
+pub honest-clause : (q : ℕ) (m : Memory) (n t : ℕ) (xs : List Parsed) → Prime q → t + 1 < q
+    → malformed q m n t xs ≡ false → right (traceOf m n t (rowsOf xs)) ≡ true → Advised q m n t (rowsOf xs)
+    → (ch : Challenge) → elements q ch ≡ true → accepts q m n t xs ch ≡ true
+honest-clause q m n t xs prime room formed fit a ch inside =
+    accepts-exactly-when q m n t ch xs (omega arith) .1 (advised-holds q m n t xs prime room formed a ch inside)

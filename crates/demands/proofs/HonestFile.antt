@@ -25,10 +25,10 @@ use Rattle.memory.specs.Rows.{limit, allowed}
 use Rattle.memory.specs.File.{parsedRow, rowsOf, parseRows, refusal, accepted, balanceReport, rowsReport, valuesFault, valuesReport, opens, openedBy, valuesRead, parseValues, namesFault, namesReport, openingReport, linesReport, fileReport}
 use Rattle.runs.specs.Honest.{Input, filledRows}
 use Rattle.memory.specs.Print.{numberText, rowsText, filledText, headerText}
-use Rattle.memory.specs.Step.{runOf, freshOf, endOf, reportOf}
+use Rattle.memory.specs.Step.{stepsOf, freshOf, endOf, reportOf}
 use Rattle.memory.specs.Bound.{elements}
 use Rattle.demands.specs.Statements.{Fillable, acceptance, HonestFileAccepted, HonestRunAccepted}
-use Rattle.memory.proofs.Fold.{run-is-file}
+use Rattle.memory.proofs.Fold.{fold-is-file}
 use Rattle.memory.proofs.Phases.{Parts, parts-no-fault}
 use Rattle.memory.proofs.Gates.{parts-gates}
 use Rattle.memory.proofs.Decimal.{tenDigits}
@@ -229,18 +229,22 @@ module _ (m : Memory) (n t : ℕ) (inits ops : List Input) (ch : Challenge) (f :
   unfolding rows
   parts = filled-parts p m n t inits ops field-prime (small .1) (f .size) (f .count) unrefused
 
-  -- the report of their lines
-  lines-accepted : valuesReport p m n t ch (parseRows p (linesOf (rowsText rows))) ≡ acceptance m n t rows
+  -- their report
+  rows-accepted : valuesReport p m n t ch (map Sound rows) ≡ acceptance m n t rows
   unfolding rows filled
-  lines-accepted =
-      ap (valuesReport p m n t ch) (filled-read p m n t inits ops ch field-prime (small .1) (f .size) (f .count) unrefused digits-enough)
-      ∙ (filled-report p m n t inits ops ch field-prime (small .1) (f .size) (f .count) unrefused pass ∙ accepted-by-formula p m n t rows (f .fit) parts)
+  rows-accepted =
+      filled-report p m n t inits ops ch field-prime (small .1) (f .size) (f .count) unrefused pass ∙ accepted-by-formula p m n t rows (f .fit) parts
+
+  -- and what their lines read as
+  lines-read : parseRows p (linesOf (rowsText rows)) ≡ map Sound rows
+  unfolding rows filled
+  lines-read = filled-read p m n t inits ops ch field-prime (small .1) (f .size) (f .count) unrefused digits-enough
 
   file-accepted : fileReport p (headerText m n t ch ++ filledText rows) ≡ acceptance m n t rows
-  file-accepted = file-of-rows p m n t ch rows digits-enough values pass ∙ lines-accepted
+  file-accepted = file-of-rows p m n t ch rows digits-enough values pass ∙ (ap (valuesReport p m n t ch) lines-read ∙ rows-accepted)
 
-  run-accepted : reportOf (endOf (runOf p (freshOf p m n t ch) (linesOf (rowsText rows)))) ≡ acceptance m n t rows
-  run-accepted = run-is-file p m n t ch (linesOf (rowsText rows)) (field-prime .two) ∙ lines-accepted
+  run-accepted : reportOf (endOf (stepsOf p (freshOf p m n t ch) (map Sound rows))) ≡ acceptance m n t rows
+  run-accepted = fold-is-file p m n t ch (map Sound rows) (field-prime .two) ∙ rows-accepted
 
 -- As bytes, behind the header.
 pub honest-file-accepted : HonestFileAccepted

@@ -18,16 +18,16 @@ use Rattle.memory.specs.declared.Op.the-variants.{Access, Look, Member, Push, P
 use Rattle.memory.specs.declared.Phase.{Phase}
 use Rattle.memory.specs.declared.Phase.the-variants.{Starting, Operating, Ending, Ranging}
 use Rattle.memory.specs.declared.Row.{Row}
+use Rattle.memory.specs.declared.Parsed.{Parsed}
 use Rattle.memory.specs.declared.Parsed.the-variants.{Sound}
-use Rattle.memory.specs.Bytes.{Line, allBelow}
+use Rattle.memory.specs.Bytes.{allBelow}
 use Rattle.memory.specs.Names.{opCode, isOp}
 use Rattle.memory.specs.Rows.{allowed, raised, lowered, endsDue, rangesDue, opsDue, opIn, columns, used, usedOrZero, formed, depthProduct, sunk}
 use Rattle.memory.specs.Equations.{listsOf, fileLists}
 use Rattle.runs.specs.Plain.{Trace, Operation, start, allFit, right, operationOf, traceOf}
 use Rattle.runs.specs.Honest.{Input, inputOf, filledRow, bare, endRow, rangeRow, rangeRowsFrom, Cell, ramRow, ramEnds, romEndsFrom, setEndsFrom, stackEnds, operationsFilled, filledRows, possible}
-use Rattle.memory.specs.File.{parseRows, refusal, firstFault}
-use Rattle.memory.specs.Bound.{rowsIn}
-use Rattle.runs.specs.Advised.{traceIn, Advised}
+use Rattle.memory.specs.File.{rowsOf, refusal, firstFault}
+use Rattle.runs.specs.Advised.{Advised}
 use Rattle.demands.specs.Statements.{HonestRows, RefusedNotRight}
 use Rattle.runs.proofs.Inputs.{Inputs, inputAt, input-cases}
 use Rattle.runs.proofs.HonestLookups.{honest, romRow, romOps, romFinal, rom-rows, rom-inputs, length-romOps, length-romFinal, rom-right-possible, rom-right-trace, setRow, setOps, setFinal, set-rows, set-inputs, length-setOps, length-setFinal, set-right-possible, set-right-trace}
@@ -36,8 +36,8 @@ use Rattle.runs.proofs.RamComplete.{ramOps, ram-inputs, ramFinalAges, ramOpRows
 use Rattle.runs.proofs.RamRight.{ram-right-possible, ram-right-same}
 use Rattle.runs.proofs.StackComplete.{stackRow, stack-inputs, stackOps, stackFinalAges, stackOpRows, stackEndRows, stackRangeRows, stack-filled, stack-length, stack-not-below, stack-ends-due, stack-right-possible, stack-right-operations}
 use Rattle.runs.proofs.QueueComplete.{queueRow, queue-inputs, queueOps, queueFinal, queueEnds, queue-filled, queue-length, queue-nonzero, queue-ends-due, queue-right-possible, queue-right-operations}
-use Rattle.memory.proofs.ReadRows.{both-pass, RowBelow, RowsBelow, lines-below, taken-below, dropped-below}
-use Rattle.memory.proofs.Phases.{DueRow, DueRows, Parts, only-op, formed-guard, due-ops, parts-inits, parts-ops, parts-lists, lines-parts, parts-no-fault}
+use Rattle.memory.proofs.ReadRows.{both-pass, RowBelow, RowsBelow, taken-below, dropped-below}
+use Rattle.memory.proofs.Phases.{DueRow, DueRows, Parts, only-op, formed-guard, due-ops, parts-inits, parts-ops, parts-lists, no-fault-phases, no-fault-below, parts-no-fault}
 use Rattle.demands.proofs.Advice.{filled-advised, DueInput, DueInputs, valuesOf, Unrefused, unrefused-zero}
 use Rattle.demands.proofs.FilledBelow.{filled-below}
 
@@ -387,15 +387,15 @@ right-unrefused q m inits ops below below' starting operating fit = record {
   can = right-refilled m (map (λ row. row .value) inits) ops operating fit .can;
 }
 
--- the same of the rows of a list of lines
-lines-unrefused : (q : ℕ) (m : Memory) (n t : ℕ) (lines : List Line) → 2 ≤ q → firstFault q m n t [] (parseRows q lines) .number ≡ 0
-    → right (traceIn q m n t lines) ≡ true
-    → Unrefused q m (map (λ row. row .value) (take n (rowsIn q lines))) (map inputOf (take n (rowsIn q lines))) (map inputOf (take t (drop n (rowsIn q lines))))
-unfolding right traceIn traceOf
-lines-unrefused q m n t lines two e fit =
-    let rows = rowsIn q lines in
-    let p = lines-parts q m n t lines e in
-    let below : RowsBelow q rows = unfold rowsIn in lines-below q lines (omega arith) in
+-- the same of a list of parsed rows
+parsed-unrefused : (q : ℕ) (m : Memory) (n t : ℕ) (xs : List Parsed) → 2 ≤ q → firstFault q m n t [] xs .number ≡ 0
+    → right (traceOf m n t (rowsOf xs)) ≡ true
+    → Unrefused q m (map (λ row. row .value) (take n (rowsOf xs))) (map inputOf (take n (rowsOf xs))) (map inputOf (take t (drop n (rowsOf xs))))
+unfolding right traceOf
+parsed-unrefused q m n t xs two e fit =
+    let rows = rowsOf xs in
+    let p = no-fault-phases q m n t xs e in
+    let below = no-fault-below q m n t [] xs e in
     right-unrefused q m (take n rows) (take t (drop n rows)) (taken-below q n rows below) (taken-below q t (drop n rows) (dropped-below q n rows below))
     (subst (DueRows m Starting) (sym (parts-inits q m n t rows p)) (p .starting))
     (subst (DueRows m Operating) (sym (parts-ops q m n t rows p)) (p .operating))
@@ -403,11 +403,11 @@ lines-unrefused q m n t lines two e fit =
 
 -- A run that the rules refuse is not right.
 pub refused-not-right : RefusedNotRight
-refused-not-right q m n t lines two e refused = go (right (traceIn q m n t lines)) refl
+refused-not-right q m n t xs two e refused = go (right (traceOf m n t (rowsOf xs))) refl
   where
-    go : (b : Bool) → right (traceIn q m n t lines) ≡ b → right (traceOf m n t (rowsIn q lines)) ≡ false
-    go true fit = absurd (refused (unrefused-zero q m _ 1 _ _ (lines-unrefused q m n t lines two e fit)))
-    go false wrong = unfold traceIn in wrong
+    go : (b : Bool) → right (traceOf m n t (rowsOf xs)) ≡ b → right (traceOf m n t (rowsOf xs)) ≡ false
+    go true fit = absurd (refused (unrefused-zero q m _ 1 _ _ (parsed-unrefused q m n t xs two e fit)))
+    go false wrong = wrong
 
 -- the trace of init rows and operations
 rowsTrace : Memory → ℕ → ℕ → List Row → List Row → Trace
@@ -460,17 +460,17 @@ module _ (q : ℕ) (m : Memory) (n t : ℕ) (inits ops : List Row) (prime : Prim
 
 -- Where the trace is right, the rules refuse no row and give rows that are complete and well-formed, with the same trace.
 pub honest-rows : HonestRows
-unfolding right traceIn traceOf rowsTrace
-honest-rows q m n t lines prime room below e fit =
-    let rows = rowsIn q lines in
-    let p = lines-parts q m n t lines e in
+unfolding right traceOf rowsTrace
+honest-rows q m n t xs prime room below e fit =
+    let rows = rowsOf xs in
+    let p = no-fault-phases q m n t xs e in
     let inits = take n rows in
     let ops = take t (drop n rows) in
     let size = ap length (parts-inits q m n t rows p) ∙ p .size in
     let count = ap length (parts-ops q m n t rows p) ∙ p .count in
     let due = subst (DueRows m Operating) (sym (parts-ops q m n t rows p)) (p .operating) in
     let fits : allFit (start m (map (λ row. row .value) inits)) (map (operationOf m) ops) ≡ true = fit in
-    let u = lines-unrefused q m n t lines (omega arith) e fit in
+    let u = parsed-unrefused q m n t xs (omega arith) e fit in
     record {
       fills = unrefused-zero q m _ 1 _ _ u;
       complete = honest-complete q m n t inits ops prime room size count due fits u;

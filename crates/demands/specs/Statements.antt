@@ -10,39 +10,40 @@ use Rattle.algebra.specs.Prime.{Prime}
 use Rattle.field.specs.Field.{p, challengesOf}
 use Rattle.memory.specs.declared.Memory.{Memory}
 use Rattle.memory.specs.declared.Row.{Row}
+use Rattle.memory.specs.declared.Parsed.{Parsed}
 use Rattle.memory.specs.declared.Parsed.the-variants.{Sound}
 use Rattle.memory.specs.declared.Challenge.{Challenge}
 use Rattle.memory.specs.declared.Report.{Report}
 use Rattle.memory.specs.Bytes.{Line, linesOf}
 use Rattle.memory.specs.Rows.{allowed, raised, lowered, initRows}
 use Rattle.memory.specs.Gates.{inputsFormula, multsFormula, puts, takes}
-use Rattle.memory.specs.File.{headLines, firstFault, refusal, parseRows, fileReport}
+use Rattle.memory.specs.File.{headLines, firstFault, refusal, rowsOf, fileReport}
 use Rattle.runs.specs.Plain.{right, traceOf}
 use Rattle.runs.specs.Honest.{Input, initInputs, operationInputs, filledRows, refilledRows}
-use Rattle.memory.specs.Step.{endOf, runOf, freshOf, reportOf}
+use Rattle.memory.specs.Step.{endOf, stepsOf, freshOf, reportOf}
 use Rattle.runs.specs.Filler.{rowsFault}
-use Rattle.memory.specs.Print.{rowsText, refusalText, filledText, headerText}
+use Rattle.memory.specs.Print.{refusalText, filledText, headerText}
 use Rattle.runs.specs.FillFile.{job, parseJob, parseInput, inputsOfLines, inputsFault, fillText}
 use Rattle.runs.specs.FillStream.{late}
-use Rattle.memory.specs.Bound.{elements, accepts, challenges, malformed, degree, rowsIn}
-use Rattle.runs.specs.Advised.{traceIn, Advised}
+use Rattle.memory.specs.Bound.{elements, accepts, challenges, malformed, degree}
+use Rattle.runs.specs.Advised.{Advised}
 
--- Demand 3, for one list of rows: where they are incomplete or malformed, or meet 8, no challenge accepts them; else, where the trace is wrong, at most 2·m·p³ of
+-- Demand 3, for one list of parsed rows, also of such as no line reads as: where they are incomplete or malformed, or meet 8, no challenge accepts them; else, where the trace is wrong, at most 2·m·p³ of
 -- the p⁴ challenges do, whatever the advice; and where it is right and the advice is the filler's, all p⁴ do
-pub record Demand (q : ℕ) (m : Memory) (n t : ℕ) (lines : List Line) : Type 0 where
-  pub incomplete : malformed q m n t lines ≡ true → (ch : Challenge) → accepts q m n t lines ch ≡ false
+pub record Demand (q : ℕ) (m : Memory) (n t : ℕ) (xs : List Parsed) : Type 0 where
+  pub incomplete : malformed q m n t xs ≡ true → (ch : Challenge) → accepts q m n t xs ch ≡ false
   -- 8: "the queue's depth product is 0, or the stack's depth is below 0"
-  pub depth : firstFault q m n t [] (parseRows q lines) .number ≡ 8 → (ch : Challenge) → accepts q m n t lines ch ≡ false
+  pub depth : firstFault q m n t [] xs .number ≡ 8 → (ch : Challenge) → accepts q m n t xs ch ≡ false
   pub wrong :
-      malformed q m n t lines ≡ false → right (traceIn q m n t lines) ≡ false
-      → challenges q (accepts q m n t lines) ≤ 2 * degree m n t (rowsIn q lines) * q ^ 3
+      malformed q m n t xs ≡ false → right (traceOf m n t (rowsOf xs)) ≡ false
+      → challenges q (accepts q m n t xs) ≤ 2 * degree m n t (rowsOf xs) * q ^ 3
   -- the same with half the bound
   pub sharp :
-      malformed q m n t lines ≡ false → right (traceIn q m n t lines) ≡ false
-      → challenges q (accepts q m n t lines) ≤ degree m n t (rowsIn q lines) * q ^ 3
+      malformed q m n t xs ≡ false → right (traceOf m n t (rowsOf xs)) ≡ false
+      → challenges q (accepts q m n t xs) ≤ degree m n t (rowsOf xs) * q ^ 3
   pub honest :
-      malformed q m n t lines ≡ false → right (traceIn q m n t lines) ≡ true → Advised q m n t (rowsIn q lines)
-      → (ch : Challenge) → elements q ch ≡ true → accepts q m n t lines ch ≡ true
+      malformed q m n t xs ≡ false → right (traceOf m n t (rowsOf xs)) ≡ true → Advised q m n t (rowsOf xs)
+      → (ch : Challenge) → elements q ch ≡ true → accepts q m n t xs ch ≡ true
 
 -- "of the p⁴ challenges": the count runs over all of them, and is the one that the field type's constant is tied to. (Balance: challenges-counted)
 abbrev pub ChallengesCounted : Type 0
@@ -51,13 +52,14 @@ ChallengesCounted = challenges p (λ ch. true) ≡ challengesOf
 -- the statement for any prime, of sizes and counts that it has room for (Demand: demand-at)
 abbrev pub DemandAt : Type 0
 DemandAt =
-    (q : ℕ) (m : Memory) (n t : ℕ) (lines : List Line) → Prime q → 2 * t ≤ q → t + 1 < q → n ≤ q → Demand q m n t lines
+    (q : ℕ) (m : Memory) (n t : ℕ) (xs : List Parsed) → Prime q → 2 * t ≤ q → t + 1 < q → n ≤ q → Demand q m n t xs
 
--- Demand 3, for every memory, size, count and list of rows. (Demand: demand-three)
+-- Demand 3, for every memory, size, count and list of parsed rows that the row call can be handed.
+-- (Demand: demand-three)
 abbrev pub DemandThree : Type 0
-DemandThree = (m : Memory) (n t : ℕ) (lines : List Line) → Demand p m n t lines
+DemandThree = (m : Memory) (n t : ℕ) (xs : List Parsed) → Demand p m n t xs
 
--- The honest prover's rules, over the rows of a well-formed file. Where the trace is right, they refuse no row and give rows that are complete and well-formed, with
+-- The honest prover's rules, over well-formed rows. Where the trace is right, they refuse no row and give rows that are complete and well-formed, with
 -- the same trace and the filler's advice. (HonestRows: honest-rows)
 pub record HonestRun (q : ℕ) (m : Memory) (n t : ℕ) (rows : List Row) : Type 0 where
   pub fills : rowsFault q m (map (λ row. row .value) (initRows n rows)) 1 (initInputs n rows) (operationInputs n t rows) .number ≡ 0
@@ -69,14 +71,14 @@ pub record HonestRun (q : ℕ) (m : Memory) (n t : ℕ) (rows : List Row) : Type
 
 abbrev pub HonestRows : Type 0
 HonestRows =
-    (q : ℕ) (m : Memory) (n t : ℕ) (lines : List Line) → Prime q → t + 1 < q → n ≤ q → firstFault q m n t [] (parseRows q lines) .number ≡ 0
-    → right (traceIn q m n t lines) ≡ true → HonestRun q m n t (rowsIn q lines)
+    (q : ℕ) (m : Memory) (n t : ℕ) (xs : List Parsed) → Prime q → t + 1 < q → n ≤ q → firstFault q m n t [] xs .number ≡ 0
+    → right (traceOf m n t (rowsOf xs)) ≡ true → HonestRun q m n t (rowsOf xs)
 
 -- A run that the rules refuse is not right. (HonestRows: refused-not-right)
 abbrev pub RefusedNotRight : Type 0
 RefusedNotRight =
-    (q : ℕ) (m : Memory) (n t : ℕ) (lines : List Line) → 2 ≤ q → firstFault q m n t [] (parseRows q lines) .number ≡ 0
-    → let rows = rowsIn q lines in
+    (q : ℕ) (m : Memory) (n t : ℕ) (xs : List Parsed) → 2 ≤ q → firstFault q m n t [] xs .number ≡ 0
+    → let rows = rowsOf xs in
     (rowsFault q m (map (λ row. row .value) (initRows n rows)) 1 (initInputs n rows) (operationInputs n t rows) .number ≡ 0 → ⊥)
     → right (traceOf m n t rows) ≡ false
 
@@ -110,7 +112,7 @@ HonestRunAccepted =
     (m : Memory) (n t : ℕ) (inits ops : List Input) (ch : Challenge) → Fillable m n t inits ops
     → elements p ch ≡ true
     → let rows = filledRows m t inits ops in
-    reportOf (endOf (runOf p (freshOf p m n t ch) (linesOf (rowsText rows)))) ≡ acceptance m n t rows
+    reportOf (endOf (stepsOf p (freshOf p m n t ch) (map Sound rows))) ≡ acceptance m n t rows
 
 -- the numbers with which the filling program refuses: "1 to 7 by line, then 11 to 13"
 abbrev pub FillNumber : ℕ → Type 0

@@ -9,7 +9,7 @@ use native.Mathlib.Omega.{arith}
 use lib.Dec.{eqb, leb, ltb}
 use lib.ListN.{length, getD}
 use lib.Pow.{areBytes}
-use borrow.Author.Tests.{ltb-true, eq-eqb, ne-eqb, eqb-true, eqb-false}
+use borrow.Author.Tests.{ltb-true, ne-eqb, eqb-true, eqb-false}
 use Rattle.memory.specs.declared.Memory.{Memory}
 use Rattle.memory.specs.declared.Memory.the-variants.{Ram, Rom, Set, Stack, Queue}
 use Rattle.memory.specs.declared.Op.{Op}
@@ -17,6 +17,7 @@ use Rattle.memory.specs.declared.Op.the-variants.{Init, Access, Look, Member, P
 use Rattle.memory.specs.Text.{bytes}
 use Rattle.memory.specs.Bytes.{same}
 use Rattle.memory.specs.Names.{memoryName, opName, memoryNamed, opNamed}
+use Rattle.memory.proofs.Same.{same-eq, same-refl}
 use Rattle.keys.specs.Keys.{keyFrom, keyOf, longestName, opKeyed, memoryKeyed}
 use Rattle.keys.proofs.Bools.{and-both}
 
@@ -70,22 +71,7 @@ key-one xs ys are bytes e = key-bytes xs ys 1 1 are bytes long e .1
         by : (length xs < length ys → ⊥) → (length ys < length xs → ⊥) → length xs ≡ length ys
         by more less = omega arith
 
--- "compared byte for byte": the comparison holds of equal texts alone
-pub same-eq : (xs ys : List ℕ) → same xs ys ≡ true → xs ≡ ys
-unfolding same
-same-eq [] [] e = refl
-same-eq [] (y ∷ ys) e = absurd (true≢false (sym e))
-same-eq (x ∷ xs) [] e = absurd (true≢false (sym e))
-same-eq (x ∷ xs) (y ∷ ys) e =
-    let both = and-both (eqb x y) (same xs ys) e in
-    ap₂ (λ (z : ℕ) (zs : List ℕ). z ∷ zs) (eqb-true x y (both .0)) (same-eq xs ys (both .1))
-
-pub same-refl : (xs : List ℕ) → same xs xs ≡ true
-unfolding same
-same-refl [] = refl
-same-refl (x ∷ xs) = rw (eq-eqb x x refl, same-refl xs)
-
--- so it is one of keys
+-- a comparison byte for byte is one of keys
 same-key : (xs ys : List ℕ) → Bytes xs → Bytes ys → same xs ys ≡ eqb (keyFrom 1 xs) (keyFrom 1 ys)
 same-key xs ys are bytes = by (same xs ys) refl (eqb (keyFrom 1 xs) (keyFrom 1 ys)) refl
   where

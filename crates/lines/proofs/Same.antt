@@ -11,7 +11,7 @@ use lib.Seq.{drop-cons}
 use borrow.Author.Tests.{eq-eqb, ne-eqb}
 use Rattle.memory.specs.Bytes.{same}
 use Rattle.memory.specs.File.{namesFault}
-use Rattle.keys.proofs.Keys.{same-eq}
+use Rattle.memory.proofs.Same.{same-eq}
 use Rattle.lines.specs.declared.Named.the-variants.{Names, Fault}
 use Rattle.lines.specs.Answers.{namedOf}
 

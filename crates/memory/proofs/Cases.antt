@@ -12,7 +12,7 @@ use Rattle.memory.specs.Rows.{limit, sized, allowed, raiseBy, lowerBy, r
 use Rattle.memory.specs.Equations.{triple, pair, factor, product, balanced, initWrites, lookRead, lookWrite, romEnds, setInit, memberRead, memberWrite, rangeSetup, rangeRead, rangeWrite, rangeEnds, accessRead, newOf, accessWrites, accessLookups, cellEnds, pushWrite, pushWrites, popRead, popReads, popLookup, popLookups, enqueues, dequeues, endOlds, shuffleLists, rangedLists, listsOf, endRows, rangeRows, fileLists, rangeBalances, memoryBalances}
 use Rattle.memory.specs.Gates.{rowInputs, costs, rowCosts, rowMults, inputsOf, multsOf}
 use Rattle.memory.specs.File.{noRow, parsedRow, rowsOf, parseRows, refusal, firstFault, refused, accepted, balanceReport, rowsReport, valuesFault, valuesReport, openedBy, valuesRead, parseValues, namesFault, namesReport, openingReport, linesReport, fileReport}
-use Rattle.memory.specs.Step.{top, raise, takesRows, due, phase, refuseAt, refuseNext, refuseLast, pass, sinks, stepFault, ramClock, endPlace, rangePlace, lookupsBy, writtenBy, readBy, suppliedBy, lookedBy, enqueuedBy, dequeuedBy, multiplied, multiply, withContext, passedRow, takeRow, takeParsed, stepOf, rowOf, accepting, endOf, reportOf, freshContext, freshProducts, freshOf, runOf}
+use Rattle.memory.specs.Step.{top, raise, takesRows, due, phase, refuseAt, refuseNext, refuseLast, pass, sinks, stepFault, ramClock, endPlace, rangePlace, lookupsBy, writtenBy, readBy, suppliedBy, lookedBy, enqueuedBy, dequeuedBy, multiplied, multiply, withContext, passedRow, takeRow, takeParsed, stepOf, accepting, endOf, reportOf, freshContext, freshProducts, freshOf, stepsOf}
 use Rattle.memory.specs.Bound.{accepts, challenge}
 use Rattle.memory.specs.Print.{digitsOnto, numberText, numbersText, reportText}
 use Rattle.memory.specs.Cases.{case, ramCase, changedCase, cases, reported, allReported, CasesHold, CountedChallenge, openedProducts, productsOf, RamProducts}
@@ -22,7 +22,7 @@ unfolding bytes longest fitting comma feed same onto fields digit digits decimal
 cases-hold = tt
 
 pub counted-challenge : CountedChallenge
-unfolding bytes longest fitting comma feed onto same fields digit digits decimalFrom numeral numerals numbers allBelow readable fieldsOf before linesOf opName opNamed opCode isOp limit sized allowed raiseBy lowerBy endsDue rangesDue phaseAt opsDue opIn columns used usedOrZero formed rowBelow rowWith rowRead parseRow depthFactor triple pair factor rangeRead rangeWrite accessRead newOf pushWrite popRead popLookup rowInputs bit costs rowCosts rowMults refused valuesFault case changedCase hashFrom plus minus times p top raise takesRows due phase refuseAt refuseNext refuseLast pass sinks stepFault ramClock endPlace rangePlace lookupsBy writtenBy readBy suppliedBy lookedBy enqueuedBy dequeuedBy multiplied multiply withContext passedRow takeRow takeParsed stepOf rowOf accepting endOf reportOf freshContext freshProducts freshOf runOf accepts challenge
+unfolding bytes longest fitting comma feed onto same fields digit digits decimalFrom numeral numerals numbers allBelow readable fieldsOf before linesOf opName opNamed opCode isOp limit sized allowed raiseBy lowerBy endsDue rangesDue phaseAt opsDue opIn columns used usedOrZero formed rowBelow rowWith rowRead parseRow depthFactor triple pair factor rangeRead rangeWrite accessRead newOf pushWrite popRead popLookup rowInputs bit costs rowCosts rowMults refused valuesFault case changedCase hashFrom plus minus times p top raise takesRows due phase refuseAt refuseNext refuseLast pass sinks stepFault ramClock endPlace rangePlace lookupsBy writtenBy readBy suppliedBy lookedBy enqueuedBy dequeuedBy multiplied multiply withContext passedRow takeRow takeParsed stepOf accepting endOf reportOf freshContext freshProducts freshOf stepsOf parseRows accepts challenge
 counted-challenge = refl
 
 pub ram-products : RamProducts

@@ -20,12 +20,12 @@ use Rattle.memory.specs.declared.Row.{Row}
 use Rattle.memory.specs.Names.{opCode, isOp}
 use Rattle.memory.specs.Rows.{limit, sized, allowed, raiseBy, lowerBy, endsDue, rangesDue, opsDue, opIn, columns, used}
 use Rattle.memory.specs.Equations.{Triple, Lookup, Lists, initWrites, lookRead, lookWrite, romEnds, setInit, memberRead, memberWrite, rangeSetup, rangeRead, rangeWrite, rangeEnds, accessRead, accessWrites, accessLookups, cellEnds, pushWrite, pushWrites, popRead, popReads, popLookup, popLookups, enqueueElements, enqueues, dequeueElements, dequeues, endElement, endOlds, shuffleLists, rangedLists, listsOf, fileLists}
-use Rattle.memory.specs.Gates.{costs, rowCosts, factorsOf, choicesOf, hashesOf, depthsOf, guarded, skippedWith, rowsWith}
-use Rattle.memory.specs.Bound.{rowsIn}
-use Rattle.memory.specs.Statements.{FactorsCounted, ChoicesCounted, HashesCounted, DepthsCounted}
+use Rattle.memory.specs.Gates.{costs, rowCosts, factorsOf, choicesOf, hashesOf, depthsOf, rowMults, multsOf, guarded, skippedWith, rowsWith}
+use Rattle.memory.specs.File.{rowsOf}
+use Rattle.memory.specs.Statements.{FactorsCounted, ChoicesCounted, HashesCounted, DepthsCounted, MultsCounted}
 use Rattle.memory.proofs.Operations.{Ops, rowAt, row-cases, not-among}
 use Rattle.memory.proofs.ReadRows.{both-pass}
-use Rattle.memory.proofs.Phases.{DueRows, Parts, due-ops, parts-lists, lines-parts}
+use Rattle.memory.proofs.Phases.{DueRows, Parts, due-ops, parts-lists, no-fault-phases}
 use Rattle.memory.proofs.Gates.{tally, oneOf, parts-only, stack-tally, queue-tally}
 
 -- factors and hash steps by op
@@ -257,10 +257,10 @@ parts-factors q Set n t rows h p = set-factors q n t rows p
 parts-factors q Stack n t rows h p = stack-factors q n t rows (eqb-true n 0 h) p
 parts-factors q Queue n t rows h p = queue-factors q n t rows (eqb-true n 0 h) p
 
--- Of a list of lines.
+-- Of a list of parsed rows.
 pub factors-counted : FactorsCounted
 unfolding recordsIn allowed
-factors-counted q m n t lines h e = parts-factors q m n t (rowsIn q lines) (both-pass (sized m n) (leb t limit) h .0) (lines-parts q m n t lines e)
+factors-counted q m n t xs h e = parts-factors q m n t (rowsOf xs) (both-pass (sized m n) (leb t limit) h .0) (no-fault-phases q m n t xs e)
 
 -- The hash steps counted, of each memory.
 abbrev Hashed : ℕ → Memory → ℕ → ℕ → List Row → Type 0
@@ -332,10 +332,10 @@ parts-hashes q Set n t rows p = plain-hashes q Set n t rows p (omega (arith, par
 parts-hashes q Stack n t rows p = plain-hashes q Stack n t rows p (omega (arith, stack-tally (rowHashes Stack) q n t rows p)) refl refl refl
 parts-hashes q Queue n t rows p = queue-hashes q n t rows p
 
--- Of a list of lines.
+-- Of a list of parsed rows.
 pub hashes-counted : HashesCounted
 unfolding elementsIn
-hashes-counted q m n t lines e = parts-hashes q m n t (rowsIn q lines) (lines-parts q m n t lines e)
+hashes-counted q m n t xs e = parts-hashes q m n t (rowsOf xs) (no-fault-phases q m n t xs e)
 
 -- A choice for each row that uses the guard column,
 choice-of : (m : Memory) (o : Op) → rowCosts m o .choices ≡ cond (used m o .guard) 1 0
@@ -384,3 +384,9 @@ pub depths-counted : DepthsCounted
 unfolding depthsOf rowsWith
 depths-counted m [] = refl
 depths-counted m (row ∷ rows) = ap₂ _+_ (depth-of m (row .op)) (depths-counted m rows)
+
+-- The multiplications are these four together.
+pub mults-counted : MultsCounted
+unfolding multsOf factorsOf choicesOf hashesOf depthsOf rowMults
+mults-counted m [] = refl
+mults-counted m (row ∷ rows) = omega (arith, mults-counted m rows)

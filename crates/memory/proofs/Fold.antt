@@ -23,10 +23,10 @@ use Rattle.memory.specs.Bytes.{Line, allBelow}
 use Rattle.memory.specs.Rows.{allowed, raised, lowered, depthProduct, rowBelow, parseRow, dueAfter, rowFault, unreadFault, parsedFault, lineFault}
 use Rattle.memory.specs.Gates.{inputsOf, multsOf}
 use Rattle.memory.specs.File.{parsedRow, rowsOf, parseRows, Refusal, refusal, firstFault, refused, accepted, balanceReport, rowsReport, valuesFault, valuesReport}
-use Rattle.memory.specs.Step.{raise, takesRows, due, refuseAt, refuseNext, refuseLast, passedRow, withContext, takeRow, takeParsed, stepOf, rowOf, accepting, endOf, reportOf, freshContext, freshProducts, freshOf, multiplied, stepsOf, runOf}
+use Rattle.memory.specs.Step.{raise, takesRows, due, refuseAt, refuseNext, refuseLast, passedRow, withContext, takeRow, takeParsed, stepOf, rowOf, accepting, endOf, reportOf, answerOf, freshContext, freshProducts, freshOf, multiplied, stepsOf, runOf}
 use Rattle.memory.specs.Equations.{fileLists, rangeBalances, memoryBalances}
-use Rattle.memory.specs.Bound.{accepts, rowsIn}
-use Rattle.memory.specs.Statements.{FoldIsFile, RunIsFile, FixedState, EndedState, AcceptsExactlyWhen, Holds}
+use Rattle.memory.specs.Bound.{accepts}
+use Rattle.memory.specs.Statements.{FoldIsFile, RunIsSteps, RunIsFile, FixedState, EndedState, RowAnswered, RefusalStays, AcceptsExactlyWhen, Holds}
 use Rattle.memory.proofs.Due.{Passes, due-form}
 use Rattle.memory.proofs.Emitted.{contextOf, none, emitted, productsOf}
 use Rattle.memory.proofs.ReadRows.{fault-not-zero}
@@ -80,8 +80,42 @@ report-of-refusal q s f l xs e =
     ∙ (ap reportOf (fixed-state q (withContext s (refuseAt (s .context) f l)) (takes-none (s .context) f l e) .1)
     ∙ rw e)
 
+-- so the end of file is answered by what is printed
+pub ended-answer : (s : State) → answerOf (endOf s) ≡ reportOf (endOf s)
+unfolding answerOf
+ended-answer s = rw (ended-state s) refl
+
+-- what a row answers is the refusal so far,
+answered-number : (s : State) → answerOf s .answer ≡ s .context .answer
+unfolding answerOf takesRows reportOf refused
+answered-number s = go (s .context .ended) (eqb (s .context .answer) 0) refl
+  where
+    go : (ended none : Bool) → eqb (s .context .answer) 0 ≡ none
+        → cond (not ended && none) (refused 0 0)
+        (cond none (cond ended (record { answer = 0; line = 0; inputs = s .context .inputs; mults = s .context .mults }) (refused 7 (raise (s .context .passed) 4)))
+        (refused (s .context .answer) (s .context .line))) .answer
+        ≡ s .context .answer
+    go true true e = sym (eqb-true (s .context .answer) 0 e)
+    go true false e = refl
+    go false true e = sym (eqb-true (s .context .answer) 0 e)
+    go false false e = refl
+
+-- 0 and 0 where there is none, and what is printed where no rows are taken
+pub row-answered : RowAnswered
+unfolding answerOf
+row-answered q s = record {
+  taken = λ e. rw e refl;
+  number = answered-number s;
+  further = λ e x. ap answerOf (fixed-state q s e .0 x) ∙ rw e refl;
+}
+
+-- so is the report of one that has refused
+pub refusal-stays : RefusalStays
+refusal-stays q s x xs e =
+    ap (λ (z : State). reportOf (endOf z)) (steps-fixed q (stepOf q s x) xs e) ∙ ap reportOf (fixed-state q (stepOf q s x) e .1)
+
 -- lines handed one by one are what they read as, handed one by one
-run-is-steps : (q : ℕ) (s : State) (lines : List Line) → runOf q s lines ≡ stepsOf q s (parseRows q lines)
+pub run-is-steps : RunIsSteps
 unfolding runOf stepsOf parseRows rowOf
 run-is-steps q s [] = refl
 run-is-steps q s (line ∷ lines) = run-is-steps q (stepOf q s (parseRow q line)) lines
@@ -294,7 +328,7 @@ run-is-file q m n t ch lines le =
     ap (λ (s : State). reportOf (endOf s)) (run-is-steps q (freshOf q m n t ch) lines) ∙ fold-is-file q m n t ch (parseRows q lines) le
 
 -- an answer is 0 where a fault is 0 and the answer after it is, and where both tests at the end pass
-zero-of-refused : (f l : ℕ) (r : Report) → eqb (cond (eqb f 0) r (refused f l) .answer) 0 ≡ true → (f ≡ 0) × (eqb (r .answer) 0 ≡ true)
+pub zero-of-refused : (f l : ℕ) (r : Report) → eqb (cond (eqb f 0) r (refused f l) .answer) 0 ≡ true → (f ≡ 0) × (eqb (r .answer) 0 ≡ true)
 unfolding refused
 zero-of-refused f l r e = pick (eqb f 0) refl
   where
@@ -314,30 +348,35 @@ zero-of-balance q m n t ch rows e = pick (rangeBalances q ch (fileLists q m n t 
     pick false b z = absurd (false≢true z)
 
 -- a challenge accepts where the whole file's answer is 0
-accepts-is-answer : (q : ℕ) (m : Memory) (n t : ℕ) (ch : Challenge) (lines : List Line) → 2 ≤ q
-    → accepts q m n t lines ch ≡ eqb (valuesReport q m n t ch (parseRows q lines) .answer) 0
+accepts-is-answer : (q : ℕ) (m : Memory) (n t : ℕ) (ch : Challenge) (xs : List Parsed) → 2 ≤ q
+    → accepts q m n t xs ch ≡ eqb (valuesReport q m n t ch xs .answer) 0
 unfolding accepts
-accepts-is-answer q m n t ch lines le = ap (λ (r : Report). eqb (r .answer) 0) (run-is-file q m n t ch lines le)
+accepts-is-answer q m n t ch xs le = ap (λ (r : Report). eqb (r .answer) 0) (fold-is-file q m n t ch xs le)
 
 -- it is 0 exactly where the equations hold
-holds-of-answer : (q : ℕ) (m : Memory) (n t : ℕ) (ch : Challenge) (lines : List Line)
-    → eqb (valuesReport q m n t ch (parseRows q lines) .answer) 0 ≡ true → Holds q m n t ch lines
-unfolding valuesReport rowsReport rowsIn
-holds-of-answer q m n t ch lines e =
-    let xs = parseRows q lines in
+pub holds-of-answer : (q : ℕ) (m : Memory) (n t : ℕ) (ch : Challenge) (xs : List Parsed)
+    → eqb (valuesReport q m n t ch xs .answer) 0 ≡ true → Holds q m n t ch xs
+unfolding valuesReport rowsReport
+holds-of-answer q m n t ch xs e =
     let first = zero-of-refused (valuesFault q m n t ch) 2 (rowsReport q m n t ch xs) e in
     let second = zero-of-refused (firstFault q m n t [] xs .number) (firstFault q m n t [] xs .line) (balanceReport q m n t ch (rowsOf xs)) (first .1) in
     let third = zero-of-balance q m n t ch (rowsOf xs) (second .1) in
     record { values = first .0; rows = second .0; range = third .0; memory = third .1 }
 
-answer-of-holds : (q : ℕ) (m : Memory) (n t : ℕ) (ch : Challenge) (lines : List Line) → Holds q m n t ch lines
-    → eqb (valuesReport q m n t ch (parseRows q lines) .answer) 0 ≡ true
-unfolding valuesReport rowsReport balanceReport accepted rowsIn
-answer-of-holds q m n t ch lines h = rw (h .values, h .rows, h .range, h .memory)
+pub answer-of-holds : (q : ℕ) (m : Memory) (n t : ℕ) (ch : Challenge) (xs : List Parsed) → Holds q m n t ch xs
+    → eqb (valuesReport q m n t ch xs .answer) 0 ≡ true
+unfolding valuesReport rowsReport balanceReport accepted
+answer-of-holds q m n t ch xs h = rw (h .values, h .rows, h .range, h .memory)
+
+-- of lines, each read and handed on
+pub accepts-lines : (q : ℕ) (m : Memory) (n t : ℕ) (ch : Challenge) (lines : List Line)
+    → accepts q m n t (parseRows q lines) ch ≡ eqb (reportOf (endOf (runOf q (freshOf q m n t ch) lines)) .answer) 0
+unfolding accepts
+accepts-lines q m n t ch lines = ap (λ (s : State). eqb (reportOf (endOf s) .answer) 0) (sym (run-is-steps q (freshOf q m n t ch) lines))
 
 -- demand 2
 pub accepts-exactly-when : AcceptsExactlyWhen
-accepts-exactly-when q m n t ch lines le = (
-  λ e. holds-of-answer q m n t ch lines (sym (accepts-is-answer q m n t ch lines le) ∙ e),
-  λ h. accepts-is-answer q m n t ch lines le ∙ answer-of-holds q m n t ch lines h,
+accepts-exactly-when q m n t ch xs le = (
+  λ e. holds-of-answer q m n t ch xs (sym (accepts-is-answer q m n t ch xs le) ∙ e),
+  λ h. accepts-is-answer q m n t ch xs le ∙ answer-of-holds q m n t ch xs h,
 )

@@ -19,11 +19,11 @@ use Rattle.memory.specs.declared.Row.{Row}
 use Rattle.memory.specs.Names.{opCode, isOp}
 use Rattle.memory.specs.Rows.{limit, sized, allowed, raised, lowered, endsDue, rangesDue, opsDue, opIn, columns, used}
 use Rattle.memory.specs.Gates.{rowInputs, rowMults, costs, rowCosts, inputsOf, multsOf, rowsWith, puts, takes, inputsFormula, multsFormula}
-use Rattle.memory.specs.Bound.{rowsIn}
+use Rattle.memory.specs.File.{rowsOf}
 use Rattle.memory.specs.Statements.{GatesByFormula}
 use Rattle.memory.proofs.Operations.{op-cases}
 use Rattle.memory.proofs.ReadRows.{both-pass}
-use Rattle.memory.proofs.Phases.{DueRows, Parts, only-op, parts-raised, lines-parts}
+use Rattle.memory.proofs.Phases.{DueRows, Parts, only-op, parts-raised, no-fault-phases}
 
 -- the sum over the rows of a number by op
 unfoldable pub tally : (Op → ℕ) → List Row → ℕ
@@ -233,7 +233,7 @@ parts-gates q Set n t rows h p = set-gates q n t rows p
 parts-gates q Stack n t rows h p = stack-gates q n t rows (eqb-true n 0 h) p
 parts-gates q Queue n t rows h p = queue-gates q n t rows (eqb-true n 0 h) p
 
--- the same of a list of lines
+-- the same of a list of parsed rows
 pub gates-by-formula : GatesByFormula
 unfolding allowed
-gates-by-formula q m n t lines h e = parts-gates q m n t (rowsIn q lines) (both-pass (sized m n) (leb t limit) h .0) (lines-parts q m n t lines e)
+gates-by-formula q m n t xs h e = parts-gates q m n t (rowsOf xs) (both-pass (sized m n) (leb t limit) h .0) (no-fault-phases q m n t xs e)

@@ -1,5 +1,6 @@
 pub mod Cases
 pub mod Operations
+pub mod Same
 pub mod ReadFields
 pub mod ReadRows
 pub mod Phases
@@ -11,9 +12,11 @@ pub mod Placed
 pub mod Expected
 pub mod Closing
 pub mod Fold
+pub mod Answered
 pub mod Gates
 pub mod Sight
 pub mod Stream
+pub mod WholeFile
 pub mod Decimal
 pub mod ReportLength
 pub mod Factors

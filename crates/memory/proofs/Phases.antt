@@ -22,14 +22,12 @@ use Rattle.memory.specs.declared.Phase.the-variants.{Starting, Operating
 use Rattle.memory.specs.declared.Row.{Row}
 use Rattle.memory.specs.declared.Parsed.{Parsed}
 use Rattle.memory.specs.declared.Parsed.the-variants.{Sound, Fault}
-use Rattle.memory.specs.Bytes.{Line}
 use Rattle.memory.specs.Names.{opCode, isOp}
 use Rattle.memory.specs.Rows.{raiseBy, lowerBy, raised, lowered, endsDue, rangesDue, phaseAt, opsDue, opIn, formed, rowBelow, depthFactor, depthProduct, sunk, dueAfter, phaseAfter, rowFault, unreadFault, parsedFault, lineFault}
 use Rattle.memory.specs.Equations.{listsOf, endRows, rangeRows, fileLists}
-use Rattle.memory.specs.File.{parsedRow, rowsOf, parseRows, Refusal, refusal, firstFault}
-use Rattle.memory.specs.Bound.{rowsIn}
+use Rattle.memory.specs.File.{parsedRow, rowsOf, Refusal, refusal, firstFault}
 use Rattle.memory.proofs.Operations.{Ops, isOp-true}
-use Rattle.memory.proofs.ReadRows.{both-pass, RowBelow, RowsBelow, fault-not-zero, below-row, split-below, chosen-zero}
+use Rattle.memory.proofs.ReadRows.{both-pass, RowBelow, RowsBelow, fault-not-zero, row-below, below-row, split-below, chosen-zero}
 
 -- a row of a phase: its op is one of those due there, and the row has its form
 abbrev pub DueRow : Memory → Phase → Row → Type 0
@@ -598,7 +596,7 @@ module _ (q : ℕ) (m : Memory) (n t : ℕ) where
       ∙ (passed-over 0 Operating (p .inits) (p .ops) (p .ends ++ p .ranges) (omega (arith, p .size)) (omega (arith, p .size, p .count)) (operates .0) (p .operating) calm
       ∙ closing-no-fault (p .inits ++ p .ops) (p .ends) (p .ranges) (omega (arith, length-append (p .inits) (p .ops), p .size, p .count)) calm (p .depth ∙ sym (ends-by-ops (p .inits) (p .ops) (p .starting))) (p .ages) (operates .1) (p .ending) (p .ranging)))
 
--- A list of lines that meets no fault reads as rows, one for each line.
+-- A list of parsed rows that meets no fault is rows, one for each entry.
 pub no-fault-sound : (q : ℕ) (m : Memory) (n t : ℕ) (before : List Row) (xs : List Parsed) → firstFault q m n t before xs .number ≡ 0
     → xs ≡ map Sound (rowsOf xs)
 unfolding rowsOf parsedRow
@@ -608,13 +606,22 @@ no-fault-sound q m n t before (Sound row ∷ xs) e =
 no-fault-sound q m n t before (Fault f ∷ xs) e =
     absurd (fault-not-zero f (unfold lineFault parsedFault in chosen-zero (ltb (length before) (dueAfter m n t before)) (unreadFault f) 7 (omega arith) (no-fault-step q m n t before (Fault f) xs e .0) .1))
 
--- the same of a list of lines
-pub lines-sound : (q : ℕ) (m : Memory) (n t : ℕ) (lines : List Line) → firstFault q m n t [] (parseRows q lines) .number ≡ 0
-    → parseRows q lines ≡ map Sound (rowsIn q lines)
-unfolding rowsIn
-lines-sound q m n t lines e = no-fault-sound q m n t [] (parseRows q lines) e
+-- Its rows are those of the four phases,
+pub no-fault-phases : (q : ℕ) (m : Memory) (n t : ℕ) (xs : List Parsed) → firstFault q m n t [] xs .number ≡ 0 → Parts q m n t (rowsOf xs)
+no-fault-phases q m n t xs e =
+    no-fault-parts q m n t (rowsOf xs) (subst (λ (ys : List Parsed). firstFault q m n t [] ys .number ≡ 0) (no-fault-sound q m n t [] xs e) e)
 
--- and its rows are those of the four phases
-pub lines-parts : (q : ℕ) (m : Memory) (n t : ℕ) (lines : List Line) → firstFault q m n t [] (parseRows q lines) .number ≡ 0 → Parts q m n t (rowsIn q lines)
-lines-parts q m n t lines e =
-    no-fault-parts q m n t (rowsIn q lines) (subst (λ (xs : List Parsed). firstFault q m n t [] xs .number ≡ 0) (lines-sound q m n t lines e) e)
+-- and their numbers are below q.
+pub no-fault-below : (q : ℕ) (m : Memory) (n t : ℕ) (before : List Row) (xs : List Parsed) → firstFault q m n t before xs .number ≡ 0 → RowsBelow q (rowsOf xs)
+unfolding rowsOf parsedRow
+no-fault-below q m n t before [] e = tt
+no-fault-below q m n t before (Sound row ∷ xs) e =
+    let step = no-fault-step q m n t before (Sound row) xs e in
+    let here : (ltb (length before) (dueAfter m n t before) ≡ true) × (cond (rowBelow q row) (rowFault q m n t before row) 3 ≡ 0) =
+    unfold lineFault parsedFault in
+    chosen-zero (ltb (length before) (dueAfter m n t before)) (cond (rowBelow q row) (rowFault q m n t before row) 3) 7 (omega arith) (step .0)
+    in
+    let small = chosen-zero (rowBelow q row) (rowFault q m n t before row) 3 (omega arith) (here .1) in
+    (row-below q row (small .0), no-fault-below q m n t (before ++ row ∷ []) xs (step .1))
+no-fault-below q m n t before (Fault f ∷ xs) e =
+    absurd (fault-not-zero f (unfold lineFault parsedFault in chosen-zero (ltb (length before) (dueAfter m n t before)) (unreadFault f) 7 (omega arith) (no-fault-step q m n t before (Fault f) xs e .0) .1))

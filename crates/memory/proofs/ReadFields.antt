@@ -15,6 +15,9 @@ pub decided : {A : Type 0} (P : A → Type 0) (b : Bool) {x y : A} → (b ≡ tr
 decided P true px py = px refl
 decided P false px py = py
 
+pub chosen : {A : Type 0} (P : A → Type 0) (b : Bool) {x y : A} → P x → P y → P (cond b x y)
+chosen P b px py = decided P b (λ e. px) py
+
 -- a number for each field
 numbers-length : (fs : List (List ℕ)) → length (numbers fs) ≡ length fs
 unfolding numbers

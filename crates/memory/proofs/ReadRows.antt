@@ -1,21 +1,17 @@
--- What lines read as: every number of a row that a line reads as is below q.
+-- Rows whose numbers are below q, and the fault of a line that reads as no row.
 -- Assumes nothing.
-use Prim.Native.Nat.{ℕ, zero, suc, _-_, _<_}
+use Prim.Native.Nat.{ℕ, zero, suc, _<_}
 use mathlib.Core.Path.{_≡_, refl}
 use mathlib.Core.Logic.{_≢_}
 use mathlib.Core.Bool.{Bool, true, false, _&&_, cond, false≢true}
 use mathlib.Core.List.{List, [], _∷_, _++_}
 use native.Mathlib.Omega.{arith}
 use lib.Dec.{eqb, ltb}
-use lib.ListN.{length, getD, take, drop}
+use lib.ListN.{take, drop}
 use borrow.Author.Tests.{ltb-true, lt-ltb}
 use Rattle.memory.specs.declared.Row.{Row}
-use Rattle.memory.specs.declared.Parsed.{Parsed}
-use Rattle.memory.specs.declared.Parsed.the-variants.{Sound, Fault}
-use Rattle.memory.specs.Bytes.{Line, allBelow, named}
-use Rattle.memory.specs.Rows.{rowBelow, rowFields, rowWith, rowRead, parseRow, unreadFault}
-use Rattle.memory.specs.File.{noRow, parsedRow, rowsOf, parseRows}
-use Rattle.memory.proofs.ReadFields.{read-fields}
+use Rattle.memory.specs.Bytes.{allBelow}
+use Rattle.memory.specs.Rows.{rowBelow, unreadFault}
 
 -- the numbers of a row are below q
 abbrev pub RowBelow : ℕ → Row → Type 0
@@ -31,11 +27,6 @@ pub both-pass : (a b : Bool) → (a && b) ≡ true → (a ≡ true) × (b ≡ tr
 both-pass true b e = (refl, e)
 both-pass false b e = absurd (false≢true e)
 
--- what a line can read as: a row whose numbers are below q, or a fault
-abbrev Numbered : ℕ → Parsed → Type 0
-Numbered q (Sound row) = rowBelow q row ≡ true
-Numbered q (Fault f) = Unit {0}
-
 -- the fault of a line that reads as no row is not 0
 pub fault-not-zero : (f : ℕ) → _≢_ {A = ℕ} (unreadFault f) 0
 fault-not-zero f e = pick (eqb f 3) e
@@ -43,23 +34,6 @@ fault-not-zero f e = pick (eqb f 3) e
     pick : (b : Bool) → _≡_ {A = ℕ} (cond b 3 2) 0 → ⊥
     pick true h = omega arith
     pick false h = omega arith
-
--- an entry of a list of numbers below q
-entry-below : (q : ℕ) (ns : List ℕ) (i : ℕ) → i < length ns → allBelow q ns ≡ true → ltb (getD ns i 0) q ≡ true
-unfolding allBelow
-entry-below q [] i h e = absurd (omega arith)
-entry-below q (x ∷ xs) zero h e = both-pass (ltb x q) (allBelow q xs) e .0
-entry-below q (x ∷ xs) (suc i) h e = entry-below q xs i (omega arith) (both-pass (ltb x q) (allBelow q xs) e .1)
-
--- what a line reads as
-line-numbered : (q : ℕ) (line : Line) → Numbered q (parseRow q line)
-unfolding parseRow rowRead rowWith rowBelow allBelow
-line-numbered q line = read-fields (λ x. Numbered q (rowRead x)) q rowFields tt tt row-numbered line
-  where
-    row-numbered : (name ns : List ℕ) → length ns ≡ rowFields - 1 → allBelow q ns ≡ true → Numbered q (rowRead (named name ns))
-    row-numbered name ns six below =
-        let at : (i : ℕ) → i < rowFields - 1 → ltb (getD ns i 0) q ≡ true = λ i h. entry-below q ns i (omega arith) below in
-        simp (at 0 (omega arith), at 1 (omega arith), at 2 (omega arith), at 3 (omega arith), at 4 (omega arith), at 5 (omega arith))
 
 -- the test of a row's numbers, where it passes
 pub row-below : (q : ℕ) (row : Row) → rowBelow q row ≡ true → RowBelow q row
@@ -84,19 +58,6 @@ pub below-row : (q : ℕ) (row : Row) → RowBelow q row → rowBelow q row ≡ 
 unfolding rowBelow allBelow
 below-row q row b =
     rw (lt-ltb _ q (b .0), lt-ltb _ q (b .1), lt-ltb _ q (b .2), lt-ltb _ q (b .3), lt-ltb _ q (b .4), lt-ltb _ q (b .5))
-
--- the numbers of a row that a line can read as; the row of a line that reads as none has only zeros
-numbered-below : (q : ℕ) (x : Parsed) → 0 < q → Numbered q x → RowBelow q (parsedRow x)
-unfolding parsedRow noRow
-numbered-below q (Fault f) positive h = (positive, positive, positive, positive, positive, positive)
-numbered-below q (Sound row) positive h = row-below q row h
-
--- the rows of a list of lines
-pub lines-below : (q : ℕ) (lines : List Line) → 0 < q → RowsBelow q (rowsOf (parseRows q lines))
-unfolding rowsOf parseRows
-lines-below q [] positive = tt
-lines-below q (line ∷ lines) positive =
-    (numbered-below q (parseRow q line) positive (line-numbered q line), lines-below q lines positive)
 
 -- a part of a list of such rows
 pub taken-below : (q k : ℕ) (rows : List Row) → RowsBelow q rows → RowsBelow q (take k rows)

@@ -87,7 +87,7 @@ names-report q k s f lines a h = go (eqb f 0) refl
     go false e = report-fixed q (refusedState f k) lines (refused-fixed f k e) ∙ refused-report f k e
 
 -- a value line is shut by a fault
-abbrev Shuts : Opening → Type 0
+abbrev pub Shuts : Opening → Type 0
 Shuts (opens m n t ch) = Unit
 Shuts (shut f) = eqb f 0 ≡ false
 
@@ -97,7 +97,7 @@ unfolding openedBy
 shuts-opened none ns = refl
 shuts-opened (some m) ns = tt
 
-values-shut : (q : ℕ) (line : Line) → Shuts (parseValues q line)
+pub values-shut : (q : ℕ) (line : Line) → Shuts (parseValues q line)
 unfolding parseValues valuesRead
 values-shut q line =
     read-fields (λ x. Shuts (valuesRead x)) q valueFields refl refl (λ name ns many below. shuts-opened (memoryNamed name) ns) line

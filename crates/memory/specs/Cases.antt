@@ -1,4 +1,4 @@
--- The cases of document 01 that it marks P, and a rom: files and what is printed for each.
+-- The cases of document 01 that it marks P, a rom, and ages that wrap: files and what is printed for each.
 -- Assumes nothing.
 use Prim.Native.Nat.{ℕ}
 use Prim.Native.String.{String}
@@ -44,6 +44,11 @@ cases =
     ∷ case "memory,size,count,r,a,b,c\nram,2,2,100,0,0,0\nop,guard,addr,value,old,time,version\ninit,0,0,5,0,0,0\ninit,0,0,9,0,0,0\naccess,1,0,7,5,0,0\naccess,0,0,0,5,1,1\nend,0,0,0,7,2,0\nend,0,0,0,9,0,0\nrange,0,0,0,0,0,2\nrange,0,0,0,0,0,0\n" "0,0,12,16"
     -- stack: a pop on an empty stack that reads the push after it
     ∷ case "memory,size,count,r,a,b,c\nstack,0,2,100,1,2,3\nop,guard,addr,value,old,time,version\npop,1,0,0,8,1,0\npush,1,0,8,0,0,0\nrange,0,0,0,0,0,0\nrange,0,0,0,0,0,0\n" "9,7,0,0"
+    -- stack: a skipped pop whose age, clock 1 less time p − 1, wraps to 2, of which document 01 has
+    -- no case
+    ∷ case "memory,size,count,r,a,b,c\nstack,0,2,100,1,2,3\nop,guard,addr,value,old,time,version\npop,0,0,0,0,2147483646,0\npush,0,0,0,0,0,0\nrange,0,0,0,0,0,0\nrange,0,0,0,0,0,1\n" "0,0,5,8"
+    -- ram: a load whose age wraps in the same way: the range balances, and the memory does not
+    ∷ case "memory,size,count,r,a,b,c\nram,1,2,100,1,2,3\nop,guard,addr,value,old,time,version\ninit,0,0,5,0,0,0\naccess,0,0,0,5,2147483646,0\naccess,0,0,0,5,1,0\nend,0,0,0,5,2,0\nrange,0,0,0,0,0,1\nrange,0,0,0,0,0,1\n" "10,9,0,0"
     -- queue: enqueue 4, enqueue 6, dequeue 4, end 6
     ∷ case "memory,size,count,r,a,b,c\nqueue,0,3,100,1,2,3\nop,guard,addr,value,old,time,version\nenqueue,1,0,4,0,0,0\nenqueue,1,0,6,0,0,0\ndequeue,1,0,0,4,0,0\nend,0,0,0,6,0,0\n" "0,0,2,8"
     -- queue: enqueue 0, enqueue 5, dequeue 5, end 0
@@ -82,7 +87,7 @@ CasesHold = T (allReported cases)
 
 -- "With challenge 100,0,0,0 as well: …, one of the counted challenges.": it accepts the changed rows. (Cases: counted-challenge)
 abbrev pub CountedChallenge : Type 0
-CountedChallenge = accepts p Ram 2 2 (drop headLines (linesOf (bytes (changedCase .file)))) (challenge 100 0 0 0) ≡ true
+CountedChallenge = accepts p Ram 2 2 (parseRows p (drop headLines (linesOf (bytes (changedCase .file))))) (challenge 100 0 0 0) ≡ true
 
 -- the products of a file's lists: of the records written and read, and of the range's pairs written and read
 unfoldable pub openedProducts : ℕ → Opening → List Row → List ℕ

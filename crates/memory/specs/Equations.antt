@@ -1,7 +1,7 @@
 -- Section "The equations" of document 01: for each memory the lists of records written and read, of range pairs, and of hashed elements, as functions of
 -- the rows; the factor of a record, the products, and when a shuffle balances. A modulus q is document 01's p.
 -- Assumes nothing.
--- must-fail/range_from_zero.edit uses `_-_`, must-fail/stack_range_of_pops.edit uses `length`
+-- `_-_` and `length` are used by edits of must-fail/ alone
 use Prim.Native.Nat.{ℕ, zero, suc, _+_, _-_, _*_}
 use mathlib.Core.Bool.{Bool, _&&_, cond}
 use mathlib.Core.List.{List, [], _∷_, _++_, map}

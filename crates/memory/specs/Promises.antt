@@ -1,20 +1,27 @@
 -- Every statement of this crate, as the fields of one record: a proof of it is a proof of each. (Promises: promises)
 -- Assumes nothing.
-use Rattle.memory.specs.Statements.{FoldIsFile, RunIsFile, FaultByForm, FixedState, EndedState, AcceptsExactlyWhen, GatesByFormula, FactorsCounted, ChoicesCounted, HashesCounted, DepthsCounted, ReportShort, StreamIsFile}
+use Rattle.memory.specs.Statements.{FoldIsFile, RunIsSteps, RunIsFile, FaultByForm, FixedState, EndedState, RowAnswered, RefusalStays, AcceptsExactlyWhen, FileAccepted, MalformedAnswered, WellFormedAnswered, GatesByFormula, FactorsCounted, ChoicesCounted, HashesCounted, DepthsCounted, MultsCounted, ReportShort, StreamIsFile}
 use Rattle.memory.specs.Cases.{CasesHold, CountedChallenge, RamProducts}
 
 pub record Promises : Type 0 where
   pub fold : FoldIsFile
+  pub runIsSteps : RunIsSteps
   pub run : RunIsFile
   pub sight : FaultByForm
   pub fixed : FixedState
   pub ended : EndedState
+  pub answered : RowAnswered
+  pub refusal : RefusalStays
   pub accepts : AcceptsExactlyWhen
+  pub file : FileAccepted
+  pub malformed : MalformedAnswered
+  pub wellFormed : WellFormedAnswered
   pub gates : GatesByFormula
   pub factors : FactorsCounted
   pub choices : ChoicesCounted
   pub hashes : HashesCounted
   pub depths : DepthsCounted
+  pub mults : MultsCounted
   pub report : ReportShort
   pub streamIsFile : StreamIsFile
   pub cases : CasesHold

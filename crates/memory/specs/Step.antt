@@ -253,6 +253,11 @@ reportOf s =
     (cond (c .ended) (record { answer = 0; line = 0; inputs = c .inputs; mults = c .mults }) (refused 7 (raise (c .passed) firstLine)))
     (refused (c .answer) (c .line))
 
+-- what a call on a lent state answers, of the state that it leaves: 0 and 0 where rows are still
+-- taken, and else what is printed
+unfoldable pub answerOf : State → Report
+answerOf s = cond (takesRows (s .context)) (refused 0 0) (reportOf s)
+
 -- the state of a memory, size, count and challenge before any row: products start at 1, hashes at 0
 unfoldable pub freshContext : Memory → ℕ → ℕ → ℕ → Context
 freshContext m n t f = record {

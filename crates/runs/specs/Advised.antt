@@ -1,4 +1,4 @@
--- The trace of a list of lines, and when its advice is the filler's: the last sentences of section "The bound on challenges" of document 01.
+-- When the advice of a list of rows is the filler's: the last sentences of section "The bound on challenges" of document 01.
 -- Assumes nothing.
 use Prim.Native.Nat.{ℕ, _+_, _*_, _≤_}
 use mathlib.Core.Path.{_≡_}
@@ -6,16 +6,9 @@ use mathlib.Core.List.{List, map}
 use lib.ListN.{length, take}
 use Rattle.memory.specs.declared.Memory.{Memory}
 use Rattle.memory.specs.declared.Row.{Row}
-use Rattle.memory.specs.Bytes.{Line}
 use Rattle.memory.specs.Rows.{rowFields}
-use Rattle.memory.specs.Bound.{rowsIn}
-use Rattle.runs.specs.Plain.{Trace, traceOf}
 use Rattle.runs.specs.Honest.{inputOf}
 use Rattle.runs.specs.Filler.{Filling, fillOf, memoryCode, room, inputNumbers, rowNumbers}
-
--- the trace of a list of lines
-unfoldable pub traceIn : ℕ → Memory → ℕ → ℕ → List Line → Trace
-traceIn q m n t lines = traceOf m n t (rowsIn q lines)
 
 -- what the filler leaves for the init rows and operations of a list of rows
 unfoldable pub fillingFor : ℕ → Memory → ℕ → ℕ → List Row → List ℕ → List ℕ → Filling
