@@ -15,7 +15,7 @@ ghost use mathlib.Core.Path.{_≡_};
 ghost use mathlib.Core.Bool.{cond};
 ghost use lib.Dec.{eqb};
 ghost use Rattle.field.specs.Field.{p};
-ghost use Rattle.memory.specs.Step.{freshOf, takeParsed, stepOf, endOf, reportOf};
+ghost use Rattle.memory.specs.Step.{freshOf, takeParsed, stepOf, endOf, reportOf, answerOf};
 ghost use Rattle.checker.specs.Unread.{unreadOf};
 
 // A fault of the value line stands on line 2.
@@ -148,13 +148,30 @@ pub fn report(s: State) -> Report
     }
 }
 
-// "The checker's state is lent and advanced in place by a row." The answer is that of the state afterwards.
+// What a call on a lent state answers: 0 and 0 where the state still takes rows, and else what is
+// printed of it.
+pub fn answer(s: State) -> Report
+    ensures { λ r. ⌜ r ≡ answerOf s ⌝ }
+{
+    if answers::takes_rows(s.context) {
+        return Report {
+            answer: 0,
+            line: 0,
+            inputs: 0,
+            mults: 0,
+        };
+    }
+    report(s)
+}
+
+// "The checker's state is lent and advanced in place by a row." The answer is that of the state
+// afterwards: a row that is taken is told from every refusal.
 pub fn row_in_place(s: &mut State, parsed: Parsed) -> Report
-    ensures { λ r. ⌜ (now (s .exit) ≡ stepOf p (now (s .entry)) parsed) × (r ≡ reportOf (stepOf p (now (s .entry)) parsed)) ⌝ }
+    ensures { λ r. ⌜ (now (s .exit) ≡ stepOf p (now (s .entry)) parsed) × (r ≡ answerOf (stepOf p (now (s .entry)) parsed)) ⌝ }
 {
     let next = step(*s, parsed);
     *s = next;
-    report(next)
+    answer(next)
 }
 
 // The end of file, of a state that is lent.
@@ -163,5 +180,5 @@ pub fn end_in_place(s: &mut State) -> Report
 {
     let next = end(*s);
     *s = next;
-    report(next)
+    answer(next)
 }
