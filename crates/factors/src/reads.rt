@@ -18,7 +18,7 @@ ghost use Rattle.memory.specs.Step.{readBy, multiplied, multiply};
 ghost use Rattle.factors.specs.Left.{leftBy};
 
 // "Pop looks up clock − time, whatever the guard; reads (depth, old, time) if guard is 1"
-pub fn pop(ch: Challenge, c: Context, row: Row, ps: Products) -> Products
+pub(crate) fn pop(ch: Challenge, c: Context, row: Row, ps: Products) -> Products
     requires { ⌜ row .op ≡ Op.Pop ⌝ }
     ensures { λ r. ⌜ r ≡ multiply p ch c row ps ⌝ }
 {
@@ -59,7 +59,7 @@ fn left(memory: Memory, executed: bool, hash: u32, r: u32, element: u32) -> u32
 }
 
 // A dequeue adds to the hash of what left.
-pub fn dequeue(ch: Challenge, c: Context, row: Row, ps: Products) -> Products
+pub(crate) fn dequeue(ch: Challenge, c: Context, row: Row, ps: Products) -> Products
     requires { ⌜ row .op ≡ Op.Dequeue ⌝ }
     ensures { λ r. ⌜ r ≡ multiply p ch c row ps ⌝ }
 {
@@ -87,7 +87,7 @@ fn end_read(ch: Challenge, c: Context, row: Row, product: u32) -> u32
 }
 
 // An end row; a queue's "End continues the dequeue hash."
-pub fn end(ch: Challenge, c: Context, row: Row, ps: Products) -> Products
+pub(crate) fn end(ch: Challenge, c: Context, row: Row, ps: Products) -> Products
     requires { ⌜ row .op ≡ Op.End ⌝ }
     ensures { λ r. ⌜ r ≡ multiply p ch c row ps ⌝ }
 {
@@ -99,7 +99,7 @@ pub fn end(ch: Challenge, c: Context, row: Row, ps: Products) -> Products
 }
 
 // "A set holding 1 to T, set up at version 0": the setup of a number comes with its row.
-pub fn range(ch: Challenge, c: Context, row: Row, ps: Products) -> Products
+pub(crate) fn range(ch: Challenge, c: Context, row: Row, ps: Products) -> Products
     requires { ⌜ row .op ≡ Op.Range ⌝ }
     ensures { λ r. ⌜ r ≡ multiply p ch c row ps ⌝ }
 {

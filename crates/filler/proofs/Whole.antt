@@ -1,6 +1,7 @@
 -- What a fill leaves, as the definition has it.
 --     blank-all       words that are all 0
 --     sized-limit, allowed-size, allowed-count    what an allowed size and count are
+--     Fills           the code's answer and what is left in both lent slices are those of a filling
 --     refused-is, filled-is    a refused row, and a fill
 --     roomy, away-unknown, away, not-away    what the library answers before it reads a row
 --     init-words-count, op-words-count, parts-filled    the rows in two parts, as they are lent
@@ -24,8 +25,9 @@ use Rattle.runs.specs.Honest.{Input, filledRows}
 use Rattle.runs.specs.Filler.{inputsIn, rowNumbers, rowsFault, memoryCoded, room, Filling, Placed, turnedAway, rowRefused, filledWith, fillRows, fillMemory, fillOf}
 use Rattle.faults.specs.declared.Fault.{Fault}
 use Rattle.faults.specs.Scan.{placedOf}
+use Rattle.filler.specs.declared.Filled.{Filled}
 use Rattle.filler.specs.declared.Filled.the-variants.{Rows, Refused}
-use Rattle.filler.specs.Answer.{answerOf, placeOf, countOf, fillingOf, awayBy, Roomy}
+use Rattle.filler.specs.Answer.{filledOf, awayBy, Roomy}
 use Rattle.layout.specs.Laid.{laid}
 use Rattle.filler.proofs.Inputs.{inputs-take, inputs-drop}
 use Rattle.layout.proofs.Laid.{part-lent}
@@ -59,25 +61,41 @@ pub allowed-count : (m : Memory) (n t : ℕ) → allowed m n t ≡ true → t �
 unfolding allowed
 allowed-count m n t e = leb-true t limit (and-both (sized m n) (leb t limit) e .1)
 
+-- the code's answer and what is left in both lent slices are those of a filling
+abbrev pub Fills : Filling → Filled → List ℕ → List ℕ → Type 0
+Fills f r out s = (r ≡ filledOf f) × ((out ≡ f .output) × (s ≡ f .scratch))
+
+-- of a filling, they are also those of any equal one
+pub fills-same : {f g : Filling} {r : Filled} {out s : List ℕ} → Fills f r out s → f ≡ g → Fills g r out s
+fills-same h e = (h .0 ∙ ap filledOf e, (h .1 .0 ∙ ap (λ (f : Filling). f .output) e, h .1 .1 ∙ ap (λ (f : Filling). f .scratch) e))
+
+-- a refusal by a number that is not 0
+refused-fills : (number place : ℕ) (out s : List ℕ) → (number ≡ 0 → ⊥)
+    → Fills (record { answer = number; place = place; count = 0; output = out; scratch = s }) (Refused number place) out s
+unfolding filledOf
+refused-fills number place out s fault = (rw (ne-eqb number 0 fault) refl, (refl, refl))
+
 pub refused-is : (m : Memory) (t : ℕ) (inits ops : List Input) (out s out′ s′ : List ℕ) (f : Fault)
     → placedOf f ≡ rowsFault p m (map (λ i. i .value) inits) 1 inits ops → (f .number ≡ 0 → ⊥)
     → out′ ≡ replicate (length out) 0 → s′ ≡ replicate (length s) 0
-    → fillingOf (Refused (f .number) (f .place)) out′ s′ ≡ fillRows p m t inits ops out s
-unfolding fillRows fillingOf answerOf placeOf countOf rowRefused
+    → Fills (fillRows p m t inits ops out s) (Refused (f .number) (f .place)) out′ s′
+unfolding fillRows rowRefused
 refused-is m t inits ops out s out′ s′ f is fault o b =
-    (λ i. record { answer = is i .number; place = is i .place; count = 0; output = o i; scratch = b i })
-    ∙ sym (ap (λ (c : Bool). cond c (filledWith (filledRows m t inits ops) out s) (rowRefused (rowsFault p m (map (λ i. i .value) inits) 1 inits ops) out s)) (ne-eqb (rowsFault p m (map (λ i. i .value) inits) 1 inits ops .number) 0 (λ e. fault (ap (λ (x : Placed). x .number) is ∙ e))))
+    fills-same (refused-fills (f .number) (f .place) out′ s′ fault)
+    ((λ i. record { answer = is i .number; place = is i .place; count = 0; output = o i; scratch = b i })
+    ∙ sym (ap (λ (c : Bool). cond c (filledWith (filledRows m t inits ops) out s) (rowRefused (rowsFault p m (map (λ i. i .value) inits) 1 inits ops) out s)) (ne-eqb (rowsFault p m (map (λ i. i .value) inits) 1 inits ops .number) 0 (λ e. fault (ap (λ (x : Placed). x .number) is ∙ e)))))
 
 pub filled-is : (m : Memory) (t : ℕ) (inits ops : List Input) (out s out′ s′ : List ℕ) (count : ℕ)
     → rowsFault p m (map (λ i. i .value) inits) 1 inits ops .number ≡ 0
     → out′ ≡ laid out 0 (filledRows m t inits ops) → s′ ≡ replicate (length s) 0 → count ≡ length (filledRows m t inits ops)
-    → fillingOf (Rows count) out′ s′ ≡ fillRows p m t inits ops out s
-unfolding fillRows fillingOf answerOf placeOf countOf filledWith laid
+    → Fills (fillRows p m t inits ops out s) (Rows count) out′ s′
+unfolding fillRows filledOf filledWith laid
 filled-is m t inits ops out s out′ s′ count clean o b c =
     let R : List ℕ = rowNumbers (filledRows m t inits ops) in
     let written : out′ ≡ R ++ drop (length R) out = o ∙ ap (λ (n : ℕ). R ++ drop n out) (zero-add (length R)) in
-    (λ i. record { answer = 0; place = 0; count = c i; output = written i; scratch = b i })
-    ∙ sym (ap (λ (x : Bool). cond x (filledWith (filledRows m t inits ops) out s) (rowRefused (rowsFault p m (map (λ i. i .value) inits) 1 inits ops) out s)) (eq-eqb (rowsFault p m (map (λ i. i .value) inits) 1 inits ops .number) 0 clean))
+    fills-same {f = record { answer = 0; place = 0; count = count; output = out′; scratch = s′ }} (refl, (refl, refl))
+    ((λ i. record { answer = 0; place = 0; count = c i; output = written i; scratch = b i })
+    ∙ sym (ap (λ (x : Bool). cond x (filledWith (filledRows m t inits ops) out s) (rowRefused (rowsFault p m (map (λ i. i .value) inits) 1 inits ops) out s)) (eq-eqb (rowsFault p m (map (λ i. i .value) inits) 1 inits ops .number) 0 clean)))
 
 -- the rows in two parts, as they are lent
 module _ (rows : List ℕ) (n t : ℕ) (all : length rows ≡ 4 * (n + t)) where
@@ -128,16 +146,17 @@ roomy m n t rows out s e =
     }
 
 module _ (k n t : ℕ) (rows out s : List ℕ) where
-  pub away-unknown : memoryCoded k ≡ none → fillingOf (Refused 4 0) out s ≡ fillOf p k n t rows out s
-  unfolding fillOf fillMemory turnedAway fillingOf answerOf placeOf countOf
-  away-unknown e = simp e
+  pub away-unknown : memoryCoded k ≡ none → Fills (fillOf p k n t rows out s) (Refused 4 0) out s
+  unfolding fillOf fillMemory turnedAway
+  away-unknown e = fills-same (refused-fills 4 0 out s (omega arith)) (simp e)
 
   module _ (m : Memory) (known : memoryCoded k ≡ some m) where
-    pub away : {number : ℕ} → number ≡ awayBy m n t (length rows) (length out) (length s) → (number ≡ 0 → ⊥) → fillingOf (Refused number 0) out s ≡ fillOf p k n t rows out s
-    unfolding fillOf fillMemory turnedAway fillingOf answerOf placeOf countOf awayBy
-    away is fault =
-        turned-either out s (fillRows p m t (take n (inputsIn rows)) (drop n (inputsIn rows)) out s) (allowed m n t) (eqb (length rows) (4 * (n + t))) (leb (7 * room n t) (length out)) (leb (room n t) (length s)) is fault
-        ∙ sym (ap (λ (o : Option Memory). fillMemory p o n t rows out s) known)
+    pub away : {number : ℕ} → number ≡ awayBy m n t (length rows) (length out) (length s) → (number ≡ 0 → ⊥) → Fills (fillOf p k n t rows out s) (Refused number 0) out s
+    unfolding fillOf fillMemory turnedAway awayBy
+    away {number} is fault =
+        fills-same (refused-fills number 0 out s fault)
+        (turned-either out s (fillRows p m t (take n (inputsIn rows)) (drop n (inputsIn rows)) out s) (allowed m n t) (eqb (length rows) (4 * (n + t))) (leb (7 * room n t) (length out)) (leb (room n t) (length s)) is fault
+        ∙ sym (ap (λ (o : Option Memory). fillMemory p o n t rows out s) known))
 
     pub not-away : awayBy m n t (length rows) (length out) (length s) ≡ 0 → fillRows p m t (take n (inputsIn rows)) (drop n (inputsIn rows)) out s ≡ fillOf p k n t rows out s
     unfolding fillOf fillMemory awayBy

@@ -15,22 +15,10 @@ use Rattle.filler.specs.declared.Filled.the-variants.{Rows, Refused}
 use Rattle.filler.specs.declared.Known.{Known}
 use Rattle.filler.specs.declared.Known.the-variants.{Is, Unknown}
 
--- the refusal's number and place, or 0 and 0, and how many rows were written
-unfoldable pub answerOf : Filled → ℕ
-answerOf (Rows n) = 0
-answerOf (Refused f k) = f
-
-unfoldable pub placeOf : Filled → ℕ
-placeOf (Rows n) = 0
-placeOf (Refused f k) = k
-
-unfoldable pub countOf : Filled → ℕ
-countOf (Rows n) = n
-countOf (Refused f k) = 0
-
--- the answer, with both lent slices afterwards
-unfoldable pub fillingOf : Filled → List ℕ → List ℕ → Filling
-fillingOf r out s = record { answer = answerOf r; place = placeOf r; count = countOf r; output = out; scratch = s }
+-- the code's answer for what the definition says: how many rows were written, or the refusal's
+-- number and place
+unfoldable pub filledOf : Filling → Filled
+filledOf f = cond (eqb (f .answer) 0) (Rows (f .count)) (Refused (f .answer) (f .place))
 
 -- the memory that a number stands for
 unfoldable pub knownOf : Known → Option Memory

@@ -86,7 +86,7 @@ fn cells_and_ranges(w: usize, t: usize, count: usize, scratch: &[u32], out: &mut
 }
 
 // The rows after the operations of a memory of w cells; how many they are.
-pub fn finish(
+pub(crate) fn finish(
     m: Memory,
     w: usize,
     t: usize,

@@ -18,7 +18,7 @@ ghost use Rattle.runs.specs.Honest.{bare, filledRows};
 ghost use Rattle.memory.specs.Rows.{sized, limit};
 ghost use Rattle.runs.specs.Filler.{inputsIn, memoryCoded, rowsFault, fillRows, fillOf};
 ghost use Rattle.index.specs.Values.{valuesIn};
-ghost use Rattle.filler.specs.Answer.{fillingOf, knownOf, awayBy, Roomy};
+ghost use Rattle.filler.specs.Answer.{filledOf, knownOf, awayBy, Roomy};
 ghost use Rattle.layout.specs.Laid.{laid};
 ghost use Rattle.faults.specs.Scan.{initsScanned, placedOf};
 ghost use Rattle.filler.specs.Write.{Fillable, Prepared};
@@ -82,7 +82,7 @@ fn write_rows(
     copy_inits(n, inits, out);
     let from = 7 * n;
     let more = write::rows_after(m, n, t, inits, ops, &mut out[from..], scratch);
-    words::clear(scratch);
+    words::clear(scratch); // "After a fill scratch is all 0"
     n + more
 }
 
@@ -108,7 +108,9 @@ fn fill_rows(
     scratch: &mut [u32],
 ) -> Filled
     requires { ⌜ Roomy m n t (now rows) (now out) (now scratch) ⌝ }
-    ensures { λ r. ⌜ fillingOf r (now (out .exit)) (now (scratch .exit)) ≡ fillRows p m t (take n (inputsIn (now (rows .entry)))) (drop n (inputsIn (now (rows .entry)))) (now (out .entry)) (now (scratch .entry)) ⌝ }
+    ensures answer { λ r. ⌜ r ≡ filledOf (fillRows p m t (take n (inputsIn (now (rows .entry)))) (drop n (inputsIn (now (rows .entry)))) (now (out .entry)) (now (scratch .entry))) ⌝ }
+    ensures output { λ _. ⌜ now (out .exit) ≡ fillRows p m t (take n (inputsIn (now (rows .entry)))) (drop n (inputsIn (now (rows .entry)))) (now (out .entry)) (now (scratch .entry)) .output ⌝ }
+    ensures words { λ _. ⌜ now (scratch .exit) ≡ fillRows p m t (take n (inputsIn (now (rows .entry)))) (drop n (inputsIn (now (rows .entry)))) (now (out .entry)) (now (scratch .entry)) .scratch ⌝ }
 {
     let from = 4 * n;
     let inits = &rows[..from];
@@ -153,7 +155,9 @@ pub fn fill(
     out: &mut [u32],
     scratch: &mut [u32],
 ) -> Filled
-    ensures { λ r. ⌜ fillingOf r (now (out .exit)) (now (scratch .exit)) ≡ fillOf p memory size count (now (rows .entry)) (now (out .entry)) (now (scratch .entry)) ⌝ }
+    ensures answer { λ r. ⌜ r ≡ filledOf (fillOf p memory size count (now (rows .entry)) (now (out .entry)) (now (scratch .entry))) ⌝ }
+    ensures output { λ _. ⌜ now (out .exit) ≡ fillOf p memory size count (now (rows .entry)) (now (out .entry)) (now (scratch .entry)) .output ⌝ }
+    ensures words { λ _. ⌜ now (scratch .exit) ≡ fillOf p memory size count (now (rows .entry)) (now (out .entry)) (now (scratch .entry)) .scratch ⌝ }
 {
     let Known::Is(m) = memory_of(memory) else {
         return Filled::Refused(numbers::NOT_ALLOWED, 0);

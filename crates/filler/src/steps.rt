@@ -13,14 +13,14 @@ ghost use Rattle.memory.specs.Rows.{limit};
 ghost use Rattle.filler.specs.Steps.{Turned, Advised, ramTold, Timely, romTold, RomReady, setTold, SetReady, pushTold, PushReady, popTold, PopReady, enqueueTold, EnqueueReady, dequeueTold, DequeueReady, stackTold, StackReady, queueTold, QueueReady, toldBy, ReadyBy, turn, advanced, Ready};
 
 // The clock, and where the cells begin and end that a stack or a queue holds.
-pub struct Cursor {
+pub(crate) struct Cursor {
     pub clock: u32,
     pub head: usize,
     pub tail: usize,
 }
 
 // The advice of an operation, and the cursor after it.
-pub struct Advice {
+pub(crate) struct Advice {
     pub old: u32,
     pub time: u32,
     pub version: u32,
@@ -257,7 +257,7 @@ fn advise(m: Memory, w: usize, at: Cursor, row: Input, inits: &[u32], scratch: &
 }
 
 // Operation k of a memory of w cells.
-pub fn step(
+pub(crate) fn step(
     m: Memory,
     w: usize,
     k: usize,

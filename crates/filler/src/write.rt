@@ -46,7 +46,7 @@ fn build_tree(n: usize, inits: &[u32], scratch: &mut [u32])
 }
 
 // The scratch words before the first operation.
-pub fn prepare(m: Memory, n: usize, inits: &[u32], scratch: &mut [u32])
+pub(crate) fn prepare(m: Memory, n: usize, inits: &[u32], scratch: &mut [u32])
     requires { ⌜ (4 * n ≡ length (now inits)) × (n ≤ length (now scratch)) × (n ≤ limit) ⌝ }
     requires { ⌜ Blank (now scratch) ⌝ }
     ensures { λ _. ⌜ Prepared m n (now (inits .entry)) (now (scratch .exit)) ⌝ }
@@ -89,7 +89,7 @@ fn operations(
 }
 
 // All rows after the init rows; how many they are. A further part of the output is handed on for the end and range rows.
-pub fn rows_after(
+pub(crate) fn rows_after(
     m: Memory,
     n: usize,
     t: usize,

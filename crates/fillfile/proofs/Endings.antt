@@ -2,14 +2,14 @@
 -- Assumes nothing.
 use Prim.Native.Nat.{ℕ, _*_, min}
 use native.Mathlib.Omega.{arith}
-use mathlib.Core.Path.{_≡_, refl, sym, _∙_, ap}
+use mathlib.Core.Path.{_≡_, refl, sym, _∙_, ap, ap₂}
 use mathlib.Core.List.{List}
 use lib.ListN.{length, take}
 use borrow.Author.Tests.{eq-eqb, ne-eqb}
 use Rattle.field.specs.Field.{p}
 use Rattle.runs.specs.declared.Intake.{Intake}
 use Rattle.memory.specs.Step.{raise}
-use Rattle.runs.specs.Filler.{memoryCode, fillOf}
+use Rattle.runs.specs.Filler.{memoryCode, Filling, fillOf}
 use Rattle.memory.specs.Print.{filledText, refusalText}
 use Rattle.memory.specs.Pieces.{piece, lastIn, endIn}
 use Rattle.runs.specs.FillStream.{Gathered, gathered, rowsDue, lineTaken, endTaken, dueWords}
@@ -18,27 +18,24 @@ use Rattle.pieces.specs.Calls.{standsFor}
 use Rattle.pieces.proofs.Parts.{take-within}
 use Rattle.filler.specs.declared.Filled.{Filled}
 use Rattle.filler.specs.declared.Filled.the-variants.{Rows, Refused}
-use Rattle.filler.specs.Answer.{answerOf, placeOf, countOf, fillingOf}
+use Rattle.filler.specs.Answer.{filledOf}
+use Rattle.filler.proofs.Whole.{Fills, fills-same}
 use Rattle.text.specs.declared.Put.{Put}
 use Rattle.text.proofs.Written.{put-text}
 use Rattle.fillfile.specs.declared.Progress.{Progress}
 use Rattle.fillfile.specs.Progress.{leftBy}
-use Rattle.fillfile.specs.Ending.{outputRows, filledOr, answerText, Ending, endedBy, refusedWith, endingOf, Ended, endOf, Finished}
+use Rattle.fillfile.specs.Ending.{outputRows, answerText, Ending, endedBy, refusedWith, endingOf, Ended, endOf, Finished}
 use Rattle.fillfile.proofs.Texts.{Putting}
 
--- the library's answer: rows, a refusal that is none, and a refusal
+-- the library's answer: rows, or a refusal
 module _ (out : List ℕ) {filled : Filled} where
   pub rows-answer : {n : ℕ} → filled ≡ Rows n → filledText (outputRows n out) ≡ answerText filled out
-  unfolding answerText filledOr answerOf placeOf countOf
+  unfolding answerText
   rows-answer e = rw e refl
 
-  pub none-answer : {f k : ℕ} → filled ≡ Refused f k → f ≡ 0 → filledText (outputRows 0 out) ≡ answerText filled out
-  unfolding answerText filledOr answerOf placeOf countOf
-  none-answer {f} {k} e zero = rw (e, zero) refl
-
-  pub refused-answer : {f k : ℕ} → filled ≡ Refused f k → (f ≡ 0 → ⊥) → refusalText f (raise k 3) ≡ answerText filled out
-  unfolding answerText filledOr answerOf placeOf countOf
-  refused-answer {f} {k} e some = rw (e, ne-eqb f 0 some) refl
+  pub refused-answer : {f k : ℕ} → filled ≡ Refused f k → refusalText f (raise k 3) ≡ answerText filled out
+  unfolding answerText
+  refused-answer e = rw e refl
 
 -- where the lines end, size and count are those of the value line
 end-due : (i : Intake) → rowsDue (endTaken i) ≡ rowsDue i
@@ -71,19 +68,20 @@ module _ (i : Intake) (ws out scratch text : List ℕ) {x : Intake} (end : x ≡
 
   -- what the library makes of the rows
   pub ended-filled : (x .answer ≡ 0) → (due count code : ℕ) → due ≡ rowsDue x → count ≡ min (4 * due) (length ws) → code ≡ memoryCode (x .memory)
-      → (filled : Filled) (output cleared : List ℕ) → fillingOf filled output cleared ≡ fillOf p code (x .size) (x .count) (take count ws) out scratch
+      → (filled : Filled) (output cleared : List ℕ) → Fills (fillOf p code (x .size) (x .count) (take count ws) out scratch) filled output cleared
       → Putting text 0 (answerText filled output) r printed → Ended (gathered i ws) out output scratch cleared text printed r
-  unfolding endingOf gathered dueWords endedBy fillingOf answerText
+  unfolding endingOf gathered dueWords endedBy
   ended-filled none due count code dues counts codes filled output cleared fills put =
       let rows : take count ws ≡ take (4 * rowsDue i) ws =
       ap (λ (n : ℕ). take n ws) counts ∙ take-within (4 * due) ws ∙ ap (λ (n : ℕ). take (4 * n) ws) (dues ∙ ap rowsDue end ∙ end-due i) in
-      let fill : fillOf p (memoryCode (x .memory)) (x .size) (x .count) (take (4 * rowsDue i) ws) out scratch ≡ fillingOf filled output cleared =
-      sym (fills ∙ rw (codes, rows) refl) in
-      ended-as (gathered i ws) out output scratch cleared text printed r (endedBy (fillingOf filled output cleared))
-      (rw (sym end, eq-eqb (x .answer) 0 none) (ap endedBy fill))
-      refl
-      refl
-      put
+      let filling : Filling = fillOf p (memoryCode (x .memory)) (x .size) (x .count) (take (4 * rowsDue i) ws) out scratch in
+      let left : Fills filling filled output cleared = fills-same fills (rw (codes, rows) refl) in
+      let same : answerText filled output ≡ answerText (filledOf filling) (filling .output) = ap₂ answerText (left .0) (left .1 .0) in
+      ended-as (gathered i ws) out output scratch cleared text printed r (endedBy filling)
+      (rw (sym end, eq-eqb (x .answer) 0 none) refl)
+      (left .1 .0)
+      (left .1 .1)
+      (put-text text 0 same put)
 
 -- the end of input, with the kept bytes at the front of the buffer
 pub finished : (was : Progress) (buffer words : List ℕ) (count : ℕ) → count ≡ min (was .kept) (length buffer) → (i : Intake) (stored : List ℕ)

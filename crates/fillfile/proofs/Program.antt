@@ -36,8 +36,9 @@ use Rattle.pieces.proofs.Feeds.{block-read}
 use Rattle.pieces.proofs.Calls.{calls-read}
 use Rattle.text.specs.declared.Put.{Put}
 use Rattle.text.proofs.Written.{put-text, put-whole}
+use Rattle.filler.specs.Answer.{filledOf}
 use Rattle.print.proofs.Rows.{row-in-numbers}
-use Rattle.fillfile.specs.Ending.{outputRows, filledOr, endedBy, refusedWith, endingOf, Ended, endOf}
+use Rattle.fillfile.specs.Ending.{outputRows, answerText, endedBy, refusedWith, endingOf, Ended, endOf}
 use Rattle.fillfile.specs.declared.Progress.{Progress}
 use Rattle.intake.specs.declared.Taken.{Taken}
 use Rattle.fillfile.specs.Progress.{begun, leftBy}
@@ -111,7 +112,7 @@ module _ (m : Memory) (n t : ℕ) (ws out scratch : List ℕ) (fit : allowed m n
 
   -- so what is printed of what it leaves is what is printed of the rows
   fill-text : endedBy (fillOf p (memoryCode m) n t ws out scratch) .text ≡ runText p m n t (inputsIn ws)
-  unfolding endedBy filledOr fillRows runText filledWith rowRefused inits ops
+  unfolding endedBy answerText filledOf fillRows runText filledWith rowRefused inits ops
   fill-text = rw fills (go (eqb (f .number) 0) refl)
     where
       f : Placed

@@ -15,7 +15,8 @@ use Rattle.memory.specs.Pieces.{endIn}
 use Rattle.runs.specs.FillStream.{Gathered, lineTaken, endTaken, dueWords}
 use Rattle.pieces.specs.Calls.{Left, standsFor}
 use Rattle.filler.specs.declared.Filled.{Filled}
-use Rattle.filler.specs.Answer.{answerOf, placeOf, countOf}
+use Rattle.filler.specs.declared.Filled.the-variants.{Rows, Refused}
+use Rattle.filler.specs.Answer.{filledOf}
 use Rattle.text.specs.declared.Put.{Put}
 use Rattle.text.specs.Put.{putOf, written}
 use Rattle.print.specs.Rows.{rowIn}
@@ -28,12 +29,9 @@ outputRows (suc k) ws = outputRows k ws ++ rowIn ws k ∷ []
 -- the rows that were written, or the refusal; "row k being line k + 3". Free is what is printed of the library's answers with place 0, which document 01 gives to
 -- the library alone: 7, 14 and 15 where the caller lends fewer words than 4 for each row, or less output or scratch than 2n + 3T rows and words, and 4 where it hands on
 -- a size or count that no value line has. What holds then: the answer is printed on line 3, and output and scratch are as they were.
-unfoldable pub filledOr : ℕ → ℕ → ℕ → List ℕ → List ℕ
-filledOr answer place count output = cond (eqb answer 0) (filledText (outputRows count output)) (refusalText answer (raise place 3))
-
--- what is printed of the library's answer
 unfoldable pub answerText : Filled → List ℕ → List ℕ
-answerText r output = filledOr (answerOf r) (placeOf r) (countOf r) output
+answerText (Rows count) output = filledText (outputRows count output)
+answerText (Refused number place) output = refusalText number (raise place 3)
 
 -- What is printed where the input ends, and the lent slices afterwards
 pub record Ending : Type 0 where
@@ -42,7 +40,7 @@ pub record Ending : Type 0 where
   pub scratch : List ℕ
 
 unfoldable pub endedBy : Filling → Ending
-endedBy f = record { text = filledOr (f .answer) (f .place) (f .count) (f .output); output = f .output; scratch = f .scratch }
+endedBy f = record { text = answerText (filledOf f) (f .output); output = f .output; scratch = f .scratch }
 
 unfoldable pub refusedWith : ℕ → ℕ → List ℕ → List ℕ → Ending
 refusedWith f l out scratch = record { text = refusalText f l; output = out; scratch = scratch }

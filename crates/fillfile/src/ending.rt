@@ -44,7 +44,7 @@ fn rows(text: &mut [u8], out: &[u32], count: usize) -> Put
     Put::At(at)
 }
 
-// Puts what the filler's library came to: the rows, or its refusal. An answer of 0 is no refusal.
+// Puts what the filler's library came to: the rows, or its refusal.
 fn answer(text: &mut [u8], out: &[u32], filled: Filled) -> Put
     ensures answer { λ r. ⌜ r ≡ putOf (length (now (text .entry))) 0 (answerText filled (now (out .entry))) ⌝ }
     ensures slice { λ _. ⌜ now (text .exit) ≡ written (now (text .entry)) 0 (answerText filled (now (out .entry))) ⌝ }
@@ -52,9 +52,6 @@ fn answer(text: &mut [u8], out: &[u32], filled: Filled) -> Put
     match filled {
         Filled::Rows(count) => rows(text, out, count),
         Filled::Refused(number, place) => {
-            if number == 0 {
-                return rows(text, out, 0);
-            }
             print::refusal(text, 0, number, intake::line_of(place))
         }
     }

@@ -26,7 +26,7 @@ pub const OUTPUT: usize = 7 * SCRATCH;
 
 pub const SCRATCH: usize = 2 * LIMIT + 3 * LIMIT;
 
-// and the most bytes that it prints.
+// and the most bytes that it prints (runs `FillTextShort`).
 pub const TEXT: usize = 85797;
 
 // Between two pieces of the input: what its lines left, and how many bytes of the line that is being read stand at the front of the caller's buffer. The caller
@@ -97,4 +97,13 @@ pub fn fill_file(input: &[u8], text: &mut [u8]) -> Put
     let used = taken.used;
     let intake = intake::last(taken.intake, &input[used..], &mut words);
     ending::finish(intake, &words, &mut out, &mut scratch, text)
+}
+
+// The same with a text of as many bytes as `fill` lends, which has room for it.
+pub fn fill_whole(input: &[u8], text: &mut [u8; TEXT]) -> Put
+    ensures answer { λ r. ⌜ r ≡ Put.At (length (fillText p (now (input .entry)))) ⌝ }
+    ensures slice { λ _. ⌜ now (text .exit) ≡ written (now (text .entry)) 0 (fillText p (now (input .entry))) ⌝ }
+    ensures many { λ _. ⌜ length (now (text .exit)) ≡ length (now (text .entry)) ⌝ }
+{
+    fill_file(input, text)
 }

@@ -1,8 +1,11 @@
 -- `filler::fill` meets its contract.
 -- Assumes nothing.
 use mathlib.Core.Path.{sym, ap, _∙_}
+use lib.ListN.{take, drop}
+use Rattle.field.specs.Field.{p}
+use Rattle.runs.specs.Filler.{inputsIn, fillRows}
 use Rattle.filler.specs.Answer.{knownOf}
-use Rattle.filler.proofs.Whole.{roomy, away-unknown, away, not-away}
+use Rattle.filler.proofs.Whole.{fills-same, roomy, away-unknown, away, not-away}
 use borrow.Author.Needs.{needs}
 use Rattle.filler.proofs.fill.Statement.{statement}
 use Rattle.filler.proofs.fill.Tie as tie
@@ -48,7 +51,7 @@ unfolding knownOf
 returns-3 c =
     let at = c .before .before .before .before .before .before .before .before .before .before .before .before .before .before .before .before .args in
     let known = sym (c .before .before .before .before .before .before .before .before .before .before .before .before .memory-of .ensures) ∙ ap knownOf (c .before .before .before .before .before .before .before .before .before .before .m .given .1) in
-    c .before .before .before .before .fill-rows .ensures ∙ not-away (at .memory) (at .size) (at .count) (at .rows .now) (at .out .now) (at .scratch .now) (c .before .before .before .before .before .before .before .before .before .before .m .given .0 .0) known (sym (c .before .before .before .before .before .before .before .before .turned-away .ensures) ∙ c .before .before .before .before .before .before .before .if1 .left)
+    fills-same {f = fillRows p (c .before .before .before .before .before .before .before .before .before .before .m .given .0 .0) (at .count) (take (at .size) (inputsIn (at .rows .now))) (drop (at .size) (inputsIn (at .rows .now))) (at .out .now) (at .scratch .now)} (c .before .before .before .before .fill-rows .ensures) (not-away (at .memory) (at .size) (at .count) (at .rows .now) (at .out .now) (at .scratch .now) (c .before .before .before .before .before .before .before .before .before .before .m .given .0 .0) known (sym (c .before .before .before .before .before .before .before .before .turned-away .ensures) ∙ c .before .before .before .before .before .before .before .if1 .left))
 
 pub fill-spec : {M : Type 1} → statement M
 fill-spec =

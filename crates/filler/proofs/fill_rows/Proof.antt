@@ -9,7 +9,7 @@ use Rattle.runs.specs.Filler.{inputsIn, room, Placed}
 use Rattle.index.specs.Values.{valuesIn}
 use Rattle.filler.proofs.Inputs.{inputs-count, values-count}
 use Rattle.filler.proofs.Clean.{clean-inits, clean-operations}
-use Rattle.filler.proofs.Whole.{sized-limit, allowed-size, allowed-count, refused-is, filled-is, initWords, opWords, init-words-count, op-words-count, parts-filled}
+use Rattle.filler.proofs.Whole.{sized-limit, allowed-size, allowed-count, fills-same, refused-is, filled-is, initWords, opWords, init-words-count, op-words-count, parts-filled}
 use borrow.Author.Needs.{needs}
 use Rattle.filler.proofs.fill_rows.Statement.{statement}
 use Rattle.filler.proofs.fill_rows.Tie as tie
@@ -68,10 +68,10 @@ returns c =
     let inits = initWords rows (at .n) (at .t) all in
     let ops = opWords rows (at .n) (at .t) all in
     let fault = c .before .before .before .before .before .before .before .before .before .before .before .first-fault .result in
-    refused-is (at .m) (at .t) (inputsIn inits) (inputsIn ops) (at .out .now) (at .scratch .now) _ _ fault
+    fills-same (refused-is (at .m) (at .t) (inputsIn inits) (inputsIn ops) (at .out .now) (at .scratch .now) _ _ fault
     (c .before .before .before .before .before .before .before .before .before .before .before .first-fault .ensures .0) (c .before .before .before .before .before .before .before .if1 .taken) (c .before .before .before .before .clear-both .ensures .0)
-    (c .before .before .before .before .clear-both .ensures .1 ∙ ap (λ (k : ℕ). replicate k 0) (c .before .before .before .before .before .before .before .before .before .before .before .first-fault .kept .1 .1 .1 .1 .0))
-    ∙ parts-filled rows (at .n) (at .t) all (at .m) (at .out .now) (at .scratch .now)
+    (c .before .before .before .before .clear-both .ensures .1 ∙ ap (λ (k : ℕ). replicate k 0) (c .before .before .before .before .before .before .before .before .before .before .before .first-fault .kept .1 .1 .1 .1 .0)))
+    (parts-filled rows (at .n) (at .t) all (at .m) (at .out .now) (at .scratch .now))
 
 write-rows-requires : tie.Need-write-rows-requires
 unfolding room
@@ -121,9 +121,9 @@ returns-2 c =
     let inits = initWords rows (at .n) (at .t) all in
     let ops = opWords rows (at .n) (at .t) all in
     let none = ap (λ (f : Placed). f .number) (sym (c .before .before .before .before .before .before .before .before .before .before .before .first-fault .ensures .0)) ∙ c .before .before .before .before .before .before .before .if1 .left in
-    filled-is (at .m) (at .t) (inputsIn inits) (inputsIn ops) (at .out .now) (at .scratch .now) _ _ (c .before .before .before .before .write-rows .result)
-    none (c .before .before .before .before .write-rows .ensures .0) (c .before .before .before .before .write-rows .ensures .1 .0 ∙ ap (λ (k : ℕ). replicate k 0) (c .before .before .before .before .before .before .before .before .before .before .before .first-fault .kept .1 .1 .1 .1 .0)) (c .before .before .before .before .write-rows .ensures .1 .1)
-    ∙ parts-filled rows (at .n) (at .t) all (at .m) (at .out .now) (at .scratch .now)
+    fills-same (filled-is (at .m) (at .t) (inputsIn inits) (inputsIn ops) (at .out .now) (at .scratch .now) _ _ (c .before .before .before .before .write-rows .result)
+    none (c .before .before .before .before .write-rows .ensures .0) (c .before .before .before .before .write-rows .ensures .1 .0 ∙ ap (λ (k : ℕ). replicate k 0) (c .before .before .before .before .before .before .before .before .before .before .before .first-fault .kept .1 .1 .1 .1 .0)) (c .before .before .before .before .write-rows .ensures .1 .1))
+    (parts-filled rows (at .n) (at .t) all (at .m) (at .out .now) (at .scratch .now))
 
 pub fill-rows-spec : {M : Type 1} → statement M
 fill-rows-spec =

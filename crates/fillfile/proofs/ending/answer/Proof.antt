@@ -3,7 +3,7 @@
 use mathlib.Core.Path.{_∙_, ap}
 use Rattle.memory.specs.Print.{refusalText}
 use Rattle.text.proofs.Written.{put-text}
-use Rattle.fillfile.proofs.Endings.{rows-answer, none-answer, refused-answer}
+use Rattle.fillfile.proofs.Endings.{rows-answer, refused-answer}
 use borrow.Author.Needs.{needs}
 use Rattle.fillfile.proofs.ending.answer.Statement.{statement}
 use Rattle.fillfile.proofs.ending.answer.Tie as tie
@@ -17,39 +17,28 @@ rows-requires c κs = search needs
 enum-known-filled-2 : tie.Need-enum-known-filled-2
 enum-known-filled-2 c = search needs
 
-rows-requires-2 : tie.Need-rows-requires-2
-rows-requires-2 c κs = search needs
-
-same-length : tie.Need-same-length
-same-length c = search needs
-
-returns : tie.Need-returns
-returns c =
-    let a = c .before .before .before .before .before .before .before .before .before .before .args in
-    put-text (a .text .now) 0 (none-answer (a .out .now) (c .before .before .before .before .before .before .filled2 .given .1) (c .before .before .before .before .if1 .taken)) (c .before .before .rows2 .ensures)
-
 line-of-requires : tie.Need-line-of-requires
 line-of-requires c κs = search needs
 
 refusal-requires : tie.Need-refusal-requires
 refusal-requires c κs = search needs
 
+same-length : tie.Need-same-length
+same-length c = search needs
+
+returns : tie.Need-returns
+returns c =
+    let a = c .before .before .before .before .before .before .before .before .before .args in
+    put-text (a .text .now) 0 (rows-answer (a .out .now) (c .before .before .before .before .before .filled .given .1)) (c .before .before .rows .ensures)
+
 same-length-2 : tie.Need-same-length-2
 same-length-2 c = search needs
 
 returns-2 : tie.Need-returns-2
 returns-2 c =
-    let a = c .before .before .before .before .before .before .before .before .before .args in
-    put-text (a .text .now) 0 (rows-answer (a .out .now) (c .before .before .before .before .before .filled .given .1)) (c .before .before .rows .ensures)
-
-same-length-3 : tie.Need-same-length-3
-same-length-3 c = search needs
-
-returns-3 : tie.Need-returns-3
-returns-3 c =
-    let a = c .before .before .before .before .before .before .before .before .before .before .before .args in
+    let a = c .before .before .before .before .before .before .before .before .before .before .args in
     put-text (a .text .now) 0
-    (ap (refusalText _) (c .before .before .before .line-of .ensures) ∙ refused-answer (a .out .now) (c .before .before .before .before .before .before .before .filled2 .given .1) (c .before .before .before .before .before .if1 .left))
+    (ap (refusalText _) (c .before .before .before .line-of .ensures) ∙ refused-answer (a .out .now) (c .before .before .before .before .before .before .filled2 .given .1))
     (c .before .before .refusal .ensures)
 
 pub answer-spec : {M : Type 1} → statement M
@@ -59,12 +48,9 @@ answer-spec =
     enum-known-filled
     rows-requires
     enum-known-filled-2
-    rows-requires-2
-    same-length
-    returns
     line-of-requires
     refusal-requires
+    same-length
+    returns
     same-length-2
-    returns-2
-    same-length-3
-    returns-3)
+    returns-2)
