@@ -7,7 +7,7 @@ use text::Put;
 // Prints the two lines, for which the text is long enough.
 fn print_end(progress: Progress, buf: &[u8]) {
     let mut text = [0u8; stream::TEXT];
-    let Put::At(end) = stream::print_end(progress, buf, &mut text) else {
+    let Put::At(end) = stream::print_whole(progress, buf, &mut text) else {
         return;
     };
     stdio::write_first(&text, end);

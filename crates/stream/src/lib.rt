@@ -58,15 +58,24 @@ pub fn finish(progress: Progress, buf: &[u8]) -> Report
     ending::report(progress.stand, &buf[..end])
 }
 
-// The most bytes that `check` prints (memory `ReportShort`).
-pub const TEXT: usize = 109;
-
 // The end of input, in the same way: the two lines that `check` prints go into the text.
 pub fn print_end(progress: Progress, buf: &[u8], text: &mut [u8]) -> Put
     ensures answer { λ r. ⌜ r ≡ putOf (length (now (text .entry))) 0 (reportText (finishOf p (standsFor (leftBy progress (now (buf .entry)))))) ⌝ }
     ensures slice { λ _. ⌜ now (text .exit) ≡ written (now (text .entry)) 0 (reportText (finishOf p (standsFor (leftBy progress (now (buf .entry)))))) ⌝ }
 {
     print::report(text, 0, finish(progress, buf))
+}
+
+// The most bytes that `check` prints (memory `ReportShort`).
+pub const TEXT: usize = 109;
+
+// The same with a text of that many bytes, which has room for them.
+pub fn print_whole(progress: Progress, buf: &[u8], text: &mut [u8; TEXT]) -> Put
+    ensures answer { λ r. ⌜ r ≡ Put.At (length (reportText (finishOf p (standsFor (leftBy progress (now (buf .entry))))))) ⌝ }
+    ensures slice { λ _. ⌜ now (text .exit) ≡ written (now (text .entry)) 0 (reportText (finishOf p (standsFor (leftBy progress (now (buf .entry)))))) ⌝ }
+    ensures many { λ _. ⌜ length (now (text .exit)) ≡ length (now (text .entry)) ⌝ }
+{
+    print_end(progress, buf, text)
 }
 
 // What `check` reports of a whole file.
