@@ -3,9 +3,10 @@
 use libc::STDIN_FILENO;
 use libc::STDOUT_FILENO;
 ghost use mathlib.Core.Path.{_≡_};
-ghost use Prim.Native.Nat.{_+_, _≤_, _<_};
+ghost use Prim.Native.Nat.{_+_, _-_, _≤_, _<_, min};
 ghost use lib.ListN.{length, take};
-ghost use Rattle.stdio.specs.Read.{block, ReadBehind};
+ghost use Rattle.stdio.specs.Read.{block, readOf, ReadBehind};
+ghost use Rattle.stdio.specs.Write.{WriteFirst};
 
 // A program reads its input in blocks of 64 KiB.
 pub const BLOCK: usize = 65536;
@@ -14,6 +15,14 @@ pub const BLOCK: usize = 65536;
 pub enum Read {
     Filled(usize),
     Ended,
+    Failed,
+}
+
+// What one write came to: the text is shorter than it should be, and nothing is written; or all of
+// it is written; or the write failed.
+pub enum Wrote {
+    Short,
+    Whole,
     Failed,
 }
 
@@ -30,13 +39,30 @@ pub fn read_behind(buf: &mut [u8], kept: usize) -> Read
     let got = read_part(buf, kept, end);
     if got < 0 {
         os::fail(b"standard input");
+    }
+    read_as(got, kept, end)
+}
+
+// What the system's answer to a read comes to that was to fill a buffer from a position up to
+// another.
+fn read_as(got: isize, from: usize, end: usize) -> Read
+    requires { ⌜ from ≤ end ⌝ }
+    ensures { λ r. ⌜ r ≡ readOf got from (end - from) ⌝ }
+{
+    if got < 0 {
         return Read::Failed;
     }
-    let n = io::count(got, &buf[kept..end]);
+    let n = least(got as usize, end - from);
     if n == 0 {
         return Read::Ended;
     }
-    Read::Filled(kept + n)
+    Read::Filled(from + n)
+}
+
+fn least(a: usize, b: usize) -> usize
+    ensures { λ r. ⌜ r ≡ min a b ⌝ }
+{
+    if a < b { a } else { b }
 }
 
 // Where a block ends that begins at a position before the end of a buffer: with the buffer, if that is first.
@@ -60,11 +86,15 @@ fn read_part(buf: &mut [u8], from: usize, end: usize) -> isize
 }
 
 // Writes the first n bytes of a text, and nothing of a text that is shorter.
-pub fn write_first(text: &[u8], n: usize) {
+pub fn write_first(text: &[u8], n: usize) -> Wrote
+    ensures { λ r. ⌜ WriteFirst (length (now (text .entry))) n r ⌝ }
+{
     if text.len() < n {
-        return;
+        return Wrote::Short;
     }
-    if !io::write_all(STDOUT_FILENO, &text[..n]) {
-        os::fail(b"standard output");
+    if io::write_all(STDOUT_FILENO, &text[..n]) {
+        return Wrote::Whole;
     }
+    os::fail(b"standard output");
+    Wrote::Failed
 }
