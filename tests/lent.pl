@@ -1,8 +1,9 @@
 #!/usr/bin/perl
-# Runs the lent state, check_file and fill_file, which neither program calls. tests/lent_cases.txt
-# is the source of a test program and tests/lent_cases.out what it is to print. A caller of the lent
-# state is covered by no proof but a walk by hand, so the program is run unproved: `rt try` runs it
-# on the interpreter and compiled three ways, from the sources of the crates, which are proved.
+# Runs the lent state, check_file, fill_file and fill_whole, which neither program calls.
+# tests/lent_cases.txt is the source of a test program and tests/lent_cases.out what it is to print.
+# A caller of the lent state is covered by no proof but a walk by hand, so the program is run
+# unproved: `rt try` runs it on the interpreter and compiled three ways, from the sources of the
+# crates, which are proved.
 # Run at the top of the repository: perl tests/lent.pl
 use strict;
 use warnings;

@@ -11,9 +11,10 @@
 #   - a statement or a record whose text has another number: a hypothesis more, say,
 #   - an edit that is not there,
 #   - a public function without a contract, or with a `requires`,
-#   - a name cited by README, GUIDE or ACCEPTANCE that the tree does not have.
+#   - a name cited by README or a page of docs/ that the tree does not have.
 # With the word `edits`, after `rt ci`, it reads what the prover said of the edits: of a promise's
-# edit, that the promise's theorem is not proved; of any edit, that the proof still fits the code.
+# edit, that the promise's theorem is not proved (there, or in a lemma that it uses); of every edit,
+# that it was refused, and not because a proof asks for other needs than the code has.
 # With the word `list` it prints the list with the numbers of the tree.
 # Run at the top of the repository: perl tests/promises.pl [edits | list]
 use strict;
@@ -22,7 +23,7 @@ use utf8;
 binmode STDOUT, ':utf8';
 
 my $list = 'tests/promises.txt';
-my @documents = ('README.md', 'docs/GUIDE.md', 'docs/ACCEPTANCE.md');
+my @documents = ('README.md', glob 'docs/*.md');
 my ($passed, $failed) = (0, 0);
 
 sub test {
@@ -99,9 +100,12 @@ if (@ARGV && $ARGV[0] eq 'edits') {
         my $said = text("target/must-fail/$crate/$edit/.log");
         test("$crate: $edit refuses $theorem", $said =~ /: error: `\Q$theorem\E`/);
     }
-    for my $log (glob 'target/must-fail/*/*/.log') {
-        my ($first) = text($log) =~ /^(.*: error.*)$/m;
-        test("$log: the proof fits the code", ($first // '') !~ /has no `Need-/);
+    for my $edit (glob 'crates/*/must-fail/*.edit') {
+        my ($crate, $label) = $edit =~ m{^crates/(\w+)/must-fail/(\w+)};
+        my $said = text("target/must-fail/$crate/$label/.log");
+        test("$edit: it is refused", $said =~ /^logic=not-proved/m);
+        my $unfit = $said =~ /has no `Need-|-spec`: expected type `tie\.Need-/;
+        test("$edit: the proof fits the code", !$unfit);
     }
     print "$passed passed, $failed failed\n";
     exit($failed ? 1 : 0);
@@ -130,7 +134,8 @@ for my $crate (sort keys %tree) {
         my $statement = $tree{$crate}{$field};
         my $theorem = $filled{$field} // '';
         test("$crate: the field $field is filled", $theorem ne '');
-        test("$crate: $theorem proves $statement", $proofs =~ /^pub \Q$theorem\E : \Q$statement\E$/m);
+        my $proved = $proofs =~ /^pub \Q$theorem\E : \Q$statement\E$/m;
+        test("$crate: $theorem proves $statement", $proved);
     }
 }
 
@@ -140,16 +145,19 @@ for (@promises) {
     my ($crate, $field, $statement, $edit, $number) = @$_;
     my $found = number($statements{"$crate $statement"} // '');
     $listed{$crate}{$field} = $statement;
-    test("$crate: the text of $statement has the number $found", $found == ($number // 0));
-    test("$crate: the listed promise $statement is the field $field", ($tree{$crate}{$field} // '') eq $statement);
+    my $same = $found && $found == ($number // 0);
+    my $promised = $tree{$crate}{$field} // '';
+    test("$crate: the text of $statement has the number $found", $same);
+    test("$crate: the listed promise $statement is the field $field", $promised eq $statement);
     test("$crate: $statement has the edit $edit", -f "crates/$crate/must-fail/$edit.edit");
 }
 for my $crate (sort keys %tree) {
     for my $field (sort keys %{ $tree{$crate} }) {
-        test("$crate: the promise $tree{$crate}{$field} is listed", ($listed{$crate}{$field} // '') eq $tree{$crate}{$field});
+        my $statement = $tree{$crate}{$field};
+        my $in_list = ($listed{$crate}{$field} // '') eq $statement;
+        test("$crate: the promise $statement is listed", $in_list);
     }
 }
-
 
 # So are the clauses of the listed records, and all records of the statements are listed.
 for my $record (sort keys %{ { %records, %clauses } }) {
@@ -157,7 +165,7 @@ for my $record (sort keys %{ { %records, %clauses } }) {
     my $found = number($source);
     my $named = join ' ', $source =~ /^  pub ([\w-]+) :/mg;
     test("$record: its clauses are those of the list", $named eq ($clauses{$record} // ''));
-    test("$record: its text has the number $found", $found == ($numbers{$record} // 0));
+    test("$record: its text has the number $found", $found && $found == ($numbers{$record} // 0));
 }
 
 # Every public function has a contract and asks nothing.
@@ -165,25 +173,36 @@ for my $path (split /\n/, `find crates -name '*.rt'`) {
     my $source = text($path);
     while ($source =~ /^ *pub (?:extern "C" )?fn (\w+)(.*?)\{$/msg) {
         my ($name, $head) = ($1, $2);
-        test("$path: $name has a contract and no requires", $head =~ /\bensures\b/ && $head !~ /\brequires\b/);
+        my $stated = $head =~ /\bensures\b/ && $head !~ /\brequires\b/;
+        test("$path: $name has a contract and no requires", $stated);
     }
 }
 
-# The names of the tree: what a file of specs/ or proofs/ defines, by its name, and all names of
-# code, definitions, theorems, crates and edits.
-my (%in, %known);
+# The names that a file of code or of definitions has.
+sub names {
+    my ($source, $code) = @_;
+    return ($source =~ /\b(?:fn|struct|enum|const|mod|type)\s+(\w+)/g,
+        $source =~ /^\s+(?:pub )?(\w+)(?:\(.*\)|: .*| \{.*)?,$/mg) if $code;
+    my $kinds = qr/(?:(?:unfoldable|abbrev|pub|record|data) )*/;
+    my $parameters = qr/(?:\{[^}]*\} |\([^)]*\) )*/;
+    return ($source =~ /^\s*$kinds([^\s:(){}]+) $parameters:/mg,
+        $source =~ /^(?:pub )?record (\w+)/mg);
+}
+
+# The names of the tree: by file, by crate, and all; of an edit its label.
+my (%in, %of, %known);
 for my $path (split /\n/, `find crates -name '*.antt' -o -name '*.rt' -o -name '*.edit'`) {
     my ($crate, $part, $file) = $path =~ m{^crates/(\w+)/([\w-]+)/(?:.*/)?([\w-]+)\.\w+$} or next;
     my $source = text($path);
-    my @names = $part eq 'must-fail' ? ($file)
-        : $path =~ /\.rt$/ ? ($file, $source =~ /\b(?:fn|struct|enum|const|mod|type)\s+(\w+)/g, $source =~ /^\s+(?:pub )?(\w+)(?:\(.*\)|: .*| \{.*)?,$/mg)
-        : ($file, $source =~ /^\s*(?:(?:unfoldable|abbrev|pub|record|data) )*([^\s:(){}]+) (?:\{[^}]*\} |\([^)]*\) )*:/mg, $source =~ /^(?:pub )?record (\w+)/mg);
-    $known{$_} = $in{$file}{$_} = 1 for @names;
+    my @names = $part eq 'must-fail' ? ($file) : ($file, names($source, $path =~ /\.rt$/));
+    $known{$_} = $in{$file}{$_} = $of{$crate}{$_} = 1 for @names;
     $known{$crate} = 1;
     # names of the toolchain's lists
     $known{$_} = 1 for map { split /, / } $source =~ /^use lib\.\w+\.\{([^}]*)\}/mg;
 }
-$known{$_} = 1 for map { /"([a-z]+)"/g } text('crates/memory/specs/Names.antt');
+# names of ops and memories, and words of the toolchain and of the programs
+$known{$_} = 1 for text('crates/memory/specs/Names.antt') =~ /"([a-z]+)"/g;
+$known{$_} = 1 for qw(check fill rt RT_JOBS requires u32);
 
 # Every name that a document cites is one of them.
 for my $document (@documents) {
@@ -199,12 +218,13 @@ for my $document (@documents) {
             test("$document: $2 of $1", $in{$1}{$2});
         }
         elsif ($name =~ /^([a-z_]+)::([A-Za-z_]+)(?:::([A-Za-z_]+))?$/) {
-            test("$document: $name", $known{$1} && $known{ $3 // $2 });
+            my ($place, $item) = ($1, $3 // $2);
+            test("$document: $name", $of{$place}{$item} || $in{$place}{$item});
         }
         elsif ($name =~ /^([A-Z]\w+)::([A-Za-z_]+)$/) {
             test("$document: $name", $known{$1} && $known{$2});
         }
-        elsif ($name =~ /^[A-Z]\w*[a-z]\w*$/ || $name =~ /^[a-z]+-[a-z-]+$/ || $name =~ /^[a-z]+(?:_[a-z0-9]+)+$/ || $name =~ /^[a-z]+[A-Z]\w*$/) {
+        elsif ($name =~ /^[A-Za-z_][\w-]*$/) {
             test("$document: the name $name", $known{$name});
         }
     }

@@ -22,13 +22,14 @@ use Rattle.memory.specs.Text.{bytes}
 use Rattle.memory.specs.Bytes.{Line, comma, feed, same, allBelow, linesOf}
 use Rattle.memory.specs.Names.{valueNames, rowNames, memoryName, memoryNamed}
 use Rattle.memory.specs.Rows.{limit, allowed}
-use Rattle.memory.specs.File.{parsedRow, rowsOf, parseRows, refusal, accepted, balanceReport, rowsReport, valuesFault, valuesReport, opens, openedBy, valuesRead, parseValues, namesFault, namesReport, openingReport, linesReport, fileReport}
+use Rattle.memory.specs.File.{parsedRow, rowsOf, parseRows, refusal, accepted, balanceReport, rowsReport, valuesFault, valuesReport, opens, openedBy, valuesRead, parseValues, namesReport, openingReport, linesReport, fileReport}
 use Rattle.runs.specs.Honest.{Input, filledRows}
 use Rattle.memory.specs.Print.{numberText, rowsText, filledText, headerText}
 use Rattle.memory.specs.Step.{stepsOf, freshOf, endOf, reportOf}
 use Rattle.memory.specs.Bound.{elements}
 use Rattle.demands.specs.Statements.{Fillable, acceptance, HonestFileAccepted, HonestRunAccepted}
 use Rattle.memory.proofs.Fold.{fold-is-file}
+use Rattle.memory.proofs.WholeFile.{whole, whole-names}
 use Rattle.memory.proofs.Phases.{Parts, parts-no-fault}
 use Rattle.memory.proofs.Gates.{parts-gates}
 use Rattle.memory.proofs.Decimal.{tenDigits}
@@ -72,10 +73,6 @@ valuesIn n t ch = n ∷ t ∷ ch .r ∷ ch .a ∷ ch .b ∷ ch .c ∷ []
 valueText : Memory → ℕ → ℕ → Challenge → List ℕ
 valueText m n t ch = joined (memoryName m) (valuesIn n t ch)
 
--- a whole line
-ended-line : List ℕ → Line
-ended-line text = record { text = text; ended = true }
-
 -- the bytes of a file by its lines
 header-line : (m : Memory) (n t : ℕ) (ch : Challenge) → headerText m n t ch ≡ valueNames ++ feed ∷ (valueText m n t ch ++ feed ∷ [])
 unfolding headerText valueText valuesIn joined
@@ -110,23 +107,14 @@ value-text-above m n t ch = joined-above (memoryName m) (valuesIn n t ch) (memor
 -- the lines of a file
 file-lines : (m : Memory) (n t : ℕ) (ch : Challenge) (rows : List Row)
     → linesOf (headerText m n t ch ++ filledText rows)
-    ≡ ended-line valueNames ∷ ended-line (valueText m n t ch) ∷ ended-line rowNames ∷ linesOf (rowsText rows)
-unfolding ended-line
+    ≡ whole valueNames ∷ whole (valueText m n t ch) ∷ whole rowNames ∷ linesOf (rowsText rows)
+unfolding whole
 file-lines m n t ch rows =
     ap linesOf (file-bytes m n t ch rows)
     ∙ (line-first valueNames (valueText m n t ch ++ feed ∷ (rowNames ++ feed ∷ rowsText rows)) value-names-above
-    ∙ ap (λ (ls : List Line). ended-line valueNames ∷ ls)
+    ∙ ap (λ (ls : List Line). whole valueNames ∷ ls)
     (line-first (valueText m n t ch) (rowNames ++ feed ∷ rowsText rows) (value-text-above m n t ch)
-    ∙ ap (λ (ls : List Line). ended-line (valueText m n t ch) ∷ ls) (line-first rowNames (rowsText rows) row-names-above)))
-
--- the names lines are as they should be
-value-names-pass : namesFault valueNames (ended-line valueNames) ≡ 0
-unfolding namesFault ended-line same valueNames bytes
-value-names-pass = refl
-
-row-names-pass : namesFault rowNames (ended-line rowNames) ≡ 0
-unfolding namesFault ended-line same rowNames bytes
-row-names-pass = refl
+    ∙ ap (λ (ls : List Line). whole (valueText m n t ch) ∷ ls) (line-first rowNames (rowsText rows) row-names-above)))
 
 -- the value line holds at most 80 bytes
 value-length : (m : Memory) (n t : ℕ) (ch : Challenge) → allBelow tenDigits (valuesIn n t ch) ≡ true → length (valueText m n t ch) ≤ 72
@@ -144,8 +132,8 @@ value-length m n t ch h =
 
 -- and reads as its values
 value-line-back : (q : ℕ) (m : Memory) (n t : ℕ) (ch : Challenge) → q ≤ tenDigits → allBelow q (valuesIn n t ch) ≡ true
-    → parseValues q (ended-line (valueText m n t ch)) ≡ opens m n t ch
-unfolding parseValues valuesRead openedBy ended-line valueText valuesIn
+    → parseValues q (whole (valueText m n t ch)) ≡ opens m n t ch
+unfolding parseValues valuesRead openedBy whole valueText valuesIn
 value-line-back q m n t ch h below =
     let digits : allBelow tenDigits (valuesIn n t ch) ≡ true = allBelow-more q tenDigits (valuesIn n t ch) h below in
     let read = fields-back q (memoryName m) (valuesIn n t ch) h (memory-above m) below (omega (arith, value-length m n t ch digits)) in
@@ -157,7 +145,7 @@ file-of-rows : (q : ℕ) (m : Memory) (n t : ℕ) (ch : Challenge) (rows : List 
 unfolding fileReport linesReport openingReport namesReport
 file-of-rows q m n t ch rows h below pass =
     ap (linesReport q) (file-lines m n t ch rows)
-    ∙ rw (value-names-pass, value-line-back q m n t ch h below, pass, row-names-pass)
+    ∙ rw (whole-names valueNames, value-line-back q m n t ch h below, pass, whole-names rowNames)
 
 -- Rows of no fault whose lists balance are accepted.
 rows-of-sound : (rows : List Row) → rowsOf (map Sound rows) ≡ rows

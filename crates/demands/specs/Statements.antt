@@ -28,8 +28,10 @@ use Rattle.runs.specs.FillStream.{late}
 use Rattle.memory.specs.Bound.{elements, accepts, challenges, malformed, degree}
 use Rattle.runs.specs.Advised.{Advised}
 
--- Demand 3, for one list of parsed rows, also of such as no line reads as: where they are incomplete or malformed, or meet 8, no challenge accepts them; else, where the trace is wrong, at most 2·m·p³ of
--- the p⁴ challenges do, whatever the advice; and where it is right and the advice is the filler's, all p⁴ do
+-- Demand 3, for one list of parsed rows, also of such as no line reads as: where they are
+-- incomplete or malformed, or meet 8, no challenge accepts them; else, where the trace is wrong, at
+-- most 2·m·p³ of the p⁴ challenges do, whatever the advice; and where it is right and the advice is
+-- the filler's, all p⁴ do
 pub record Demand (q : ℕ) (m : Memory) (n t : ℕ) (xs : List Parsed) : Type 0 where
   pub incomplete : malformed q m n t xs ≡ true → (ch : Challenge) → accepts q m n t xs ch ≡ false
   -- 8: "the queue's depth product is 0, or the stack's depth is below 0"
@@ -59,8 +61,9 @@ DemandAt =
 abbrev pub DemandThree : Type 0
 DemandThree = (m : Memory) (n t : ℕ) (xs : List Parsed) → Demand p m n t xs
 
--- The honest prover's rules, over well-formed rows. Where the trace is right, they refuse no row and give rows that are complete and well-formed, with
--- the same trace and the filler's advice. (HonestRows: honest-rows)
+-- The honest prover's rules, over well-formed rows. Where the trace is right, they refuse no row
+-- and give rows that are complete and well-formed, with the same trace and the filler's advice.
+-- (HonestRows: honest-rows)
 pub record HonestRun (q : ℕ) (m : Memory) (n t : ℕ) (rows : List Row) : Type 0 where
   pub fills : rowsFault q m (map (λ row. row .value) (initRows n rows)) 1 (initInputs n rows) (operationInputs n t rows) .number ≡ 0
   pub complete :

@@ -1,5 +1,6 @@
--- The steps of a checker and the whole file: the fresh state, advanced by whatever lines can read as and ended, reports what the whole-file definition says. A state that has
--- refused or ended is fixed. The answer is 0 exactly when the rows are complete and well-formed and the equations hold.
+-- The steps of a checker and the whole file: the fresh state, advanced by any parsed rows and ended,
+-- reports what the whole-file definition says. A state that has refused or ended is fixed. The answer
+-- is 0 exactly when the rows are complete and well-formed and the equations hold.
 -- Assumes nothing.
 use Prim.Native.Nat.{ℕ, _+_, _≤_}
 use native.Mathlib.Omega.{arith}
@@ -80,7 +81,7 @@ report-of-refusal q s f l xs e =
     ∙ (ap reportOf (fixed-state q (withContext s (refuseAt (s .context) f l)) (takes-none (s .context) f l e) .1)
     ∙ rw e)
 
--- so the end of file is answered by what is printed
+-- after the end of file no rows are taken, so the answer is what is printed
 pub ended-answer : (s : State) → answerOf (endOf s) ≡ reportOf (endOf s)
 unfolding answerOf
 ended-answer s = rw (ended-state s) refl
@@ -109,7 +110,7 @@ row-answered q s = record {
   further = λ e x. ap answerOf (fixed-state q s e .0 x) ∙ rw e refl;
 }
 
--- so is the report of one that has refused
+-- no later row alters a refusal: rows and the end of file leave its report
 pub refusal-stays : RefusalStays
 refusal-stays q s x xs e =
     ap (λ (z : State). reportOf (endOf z)) (steps-fixed q (stepOf q s x) xs e) ∙ ap reportOf (fixed-state q (stepOf q s x) e .1)
@@ -368,7 +369,7 @@ pub answer-of-holds : (q : ℕ) (m : Memory) (n t : ℕ) (ch : Challenge) (xs : 
 unfolding valuesReport rowsReport balanceReport accepted
 answer-of-holds q m n t ch xs h = rw (h .values, h .rows, h .range, h .memory)
 
--- of lines, each read and handed on
+-- a challenge accepts lines where the end of file answers 0 after each was read and handed on
 pub accepts-lines : (q : ℕ) (m : Memory) (n t : ℕ) (ch : Challenge) (lines : List Line)
     → accepts q m n t (parseRows q lines) ch ≡ eqb (reportOf (endOf (runOf q (freshOf q m n t ch) lines)) .answer) 0
 unfolding accepts

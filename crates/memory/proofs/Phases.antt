@@ -596,6 +596,13 @@ module _ (q : ℕ) (m : Memory) (n t : ℕ) where
       ∙ (passed-over 0 Operating (p .inits) (p .ops) (p .ends ++ p .ranges) (omega (arith, p .size)) (omega (arith, p .size, p .count)) (operates .0) (p .operating) calm
       ∙ closing-no-fault (p .inits ++ p .ops) (p .ends) (p .ranges) (omega (arith, length-append (p .inits) (p .ops), p .size, p .count)) calm (p .depth ∙ sym (ends-by-ops (p .inits) (p .ops) (p .starting))) (p .ages) (operates .1) (p .ending) (p .ranging)))
 
+-- a line that reads as no row is a fault
+fault-met : (q : ℕ) (m : Memory) (n t : ℕ) (before : List Row) (f : ℕ) (xs : List Parsed) → firstFault q m n t before (Fault f ∷ xs) .number ≡ 0 → ⊥
+unfolding lineFault parsedFault
+fault-met q m n t before f xs e =
+    let here = no-fault-step q m n t before (Fault f) xs e .0 in
+    fault-not-zero f (chosen-zero (ltb (length before) (dueAfter m n t before)) (unreadFault f) 7 (omega arith) here .1)
+
 -- A list of parsed rows that meets no fault is rows, one for each entry.
 pub no-fault-sound : (q : ℕ) (m : Memory) (n t : ℕ) (before : List Row) (xs : List Parsed) → firstFault q m n t before xs .number ≡ 0
     → xs ≡ map Sound (rowsOf xs)
@@ -603,8 +610,7 @@ unfolding rowsOf parsedRow
 no-fault-sound q m n t before [] e = refl
 no-fault-sound q m n t before (Sound row ∷ xs) e =
     ap {B = List Parsed} (λ l. Sound row ∷ l) (no-fault-sound q m n t (before ++ row ∷ []) xs (no-fault-step q m n t before (Sound row) xs e .1))
-no-fault-sound q m n t before (Fault f ∷ xs) e =
-    absurd (fault-not-zero f (unfold lineFault parsedFault in chosen-zero (ltb (length before) (dueAfter m n t before)) (unreadFault f) 7 (omega arith) (no-fault-step q m n t before (Fault f) xs e .0) .1))
+no-fault-sound q m n t before (Fault f ∷ xs) e = absurd (fault-met q m n t before f xs e)
 
 -- Its rows are those of the four phases,
 pub no-fault-phases : (q : ℕ) (m : Memory) (n t : ℕ) (xs : List Parsed) → firstFault q m n t [] xs .number ≡ 0 → Parts q m n t (rowsOf xs)
@@ -623,5 +629,4 @@ no-fault-below q m n t before (Sound row ∷ xs) e =
     in
     let small = chosen-zero (rowBelow q row) (rowFault q m n t before row) 3 (omega arith) (here .1) in
     (row-below q row (small .0), no-fault-below q m n t (before ++ row ∷ []) xs (step .1))
-no-fault-below q m n t before (Fault f ∷ xs) e =
-    absurd (fault-not-zero f (unfold lineFault parsedFault in chosen-zero (ltb (length before) (dueAfter m n t before)) (unreadFault f) 7 (omega arith) (no-fault-step q m n t before (Fault f) xs e .0) .1))
+no-fault-below q m n t before (Fault f ∷ xs) e = absurd (fault-met q m n t before f xs e)

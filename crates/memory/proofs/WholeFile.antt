@@ -19,7 +19,7 @@ use Rattle.memory.proofs.Fold.{zero-of-refused, holds-of-answer, answer
 use Rattle.memory.proofs.Stream.{Shuts, values-shut}
 
 -- a names line with its line feed
-unfoldable whole : List ℕ → Line
+unfoldable pub whole : List ℕ → Line
 whole names = record { text = names; ended = true }
 
 -- it is the one line without a fault
@@ -30,7 +30,7 @@ names-whole names line e =
     let end = chosen-zero (line .ended) 0 2 (omega arith) (text .1) in
     ap₂ (λ (bs : List ℕ) (b : Bool). record { text = bs; ended = b }) (same-eq (line .text) names (text .0)) (end .0)
 
-whole-names : (names : List ℕ) → namesFault names (whole names) ≡ 0
+pub whole-names : (names : List ℕ) → namesFault names (whole names) ≡ 0
 unfolding namesFault whole
 whole-names names = rw (same-refl names)
 

@@ -1,5 +1,6 @@
--- Section "The bound on challenges" of document 01: when a challenge accepts, what is malformed, and m, all of any list of parsed rows that the row call can be
--- handed, also of such as no line reads as; lines are the instance `parseRows q lines`. When the advice is the filler's is said in crate runs.
+-- Section "The bound on challenges" of document 01: when a challenge accepts and what is malformed, of
+-- any list of parsed rows that the row call can be handed, also of such as no line reads as; and m.
+-- Lines are the instance `parseRows q lines`. When the advice is the filler's is said in crate runs.
 -- Assumes nothing.
 use Prim.Native.Nat.{ℕ, _+_, max}
 use mathlib.Core.Bool.{Bool, _&&_, _||_, not}

@@ -1,4 +1,5 @@
--- The cases of document 01 that it marks P, a rom, and ages that wrap: files and what is printed for each.
+-- The cases of document 01 that it marks P, a rom, and ages that wrap: files and what is printed
+-- for each.
 -- Assumes nothing.
 use Prim.Native.Nat.{ℕ}
 use Prim.Native.String.{String}

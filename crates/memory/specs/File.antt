@@ -27,7 +27,7 @@ unfoldable pub parsedRow : Parsed → Row
 parsedRow (Sound row) = row
 parsedRow (Fault f) = noRow
 
--- the rows that a list of lines reads as
+-- the rows of a list of parsed rows, and what a list of lines reads as
 unfoldable pub rowsOf : List Parsed → List Row
 rowsOf parsed = map parsedRow parsed
 

@@ -1,4 +1,5 @@
--- When the advice of a list of rows is the filler's: the last sentences of section "The bound on challenges" of document 01.
+-- When the advice of a list of rows is the filler's: the last sentences of section "The bound on
+-- challenges" of document 01.
 -- Assumes nothing.
 use Prim.Native.Nat.{ℕ, _+_, _*_, _≤_}
 use mathlib.Core.Path.{_≡_}

@@ -13,5 +13,6 @@ use Rattle.stdio.specs.declared.Wrote.the-variants.{Short, Whole, Failed
 abbrev pub wroteOf : ℕ → ℕ → Bool → Wrote
 wroteOf size n all = cond (ltb size n) Short (cond all Whole Failed)
 
+-- the answers that are allowed: whether the system took all is free
 abbrev pub WriteFirst : ℕ → ℕ → Wrote → Type 0
 WriteFirst size n r = (all : Bool) × (r ≡ wroteOf size n all)

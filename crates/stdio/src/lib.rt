@@ -43,8 +43,7 @@ pub fn read_behind(buf: &mut [u8], kept: usize) -> Read
     read_as(got, kept, end)
 }
 
-// What the system's answer to a read comes to that was to fill a buffer from a position up to
-// another.
+// What the system's answer comes to, of a read into a buffer from one position up to another.
 fn read_as(got: isize, from: usize, end: usize) -> Read
     requires { ⌜ from ≤ end ⌝ }
     ensures { λ r. ⌜ r ≡ readOf got from (end - from) ⌝ }
@@ -59,6 +58,7 @@ fn read_as(got: isize, from: usize, end: usize) -> Read
     Read::Filled(from + n)
 }
 
+// The smaller of two numbers.
 fn least(a: usize, b: usize) -> usize
     ensures { λ r. ⌜ r ≡ min a b ⌝ }
 {

@@ -1,6 +1,7 @@
--- `checker::row_in_place` meets its contract: a walk of its MIR, by hand. The state behind the reference is copied and passed to `step` with the row; what
--- `step` returns is stored there, and `answer` is called on it. What comes before `step` and after it is `Lent.antt`'s. All that the proof knows of the two
--- callees is that they meet their contracts.
+-- `checker::row_in_place` meets its contract: a walk of its MIR, by hand. The state behind the
+-- reference is copied and passed to `step` with the row; what `step` returns is stored there, and
+-- `answer` is called on it. What comes before `step` and after it is `Lent.antt`'s. All that the
+-- proof knows of the two callees is that they meet their contracts.
 -- Assumes nothing.
 use mathlib.Core.Path.{_≡_, refl, ap, _∙_}
 use Prim.Native.Nat.{ℕ}
