@@ -174,7 +174,7 @@ pub fn row_in_place(s: &mut State, parsed: Parsed) -> Report
     answer(next)
 }
 
-// The end of file, of a state that is lent.
+// The end of file, of a state that is lent. No rows are taken then, so the answer is what is printed.
 pub fn end_in_place(s: &mut State) -> Report
     ensures { λ r. ⌜ (now (s .exit) ≡ endOf (now (s .entry))) × (r ≡ reportOf (endOf (now (s .entry)))) ⌝ }
 {
