@@ -99,10 +99,11 @@ pub fn fill_file(input: &[u8], text: &mut [u8]) -> Put
     ending::finish(intake, &words, &mut out, &mut scratch, text)
 }
 
-// The same with a text of as many bytes as `fill` lends, which has room for it.
+// The same with a text of as many bytes as `fill` lends: it always has room for it.
 pub fn fill_whole(input: &[u8], text: &mut [u8; TEXT]) -> Put
-    ensures answer { λ r. ⌜ r ≡ Put.At (length (fillText p (now (input .entry)))) ⌝ }
+    ensures answer { λ r. ⌜ r ≡ putOf (length (now (text .entry))) 0 (fillText p (now (input .entry))) ⌝ }
     ensures slice { λ _. ⌜ now (text .exit) ≡ written (now (text .entry)) 0 (fillText p (now (input .entry))) ⌝ }
+    ensures room { λ r. ⌜ r ≡ Put.At (length (fillText p (now (input .entry)))) ⌝ }
     ensures many { λ _. ⌜ length (now (text .exit)) ≡ length (now (text .entry)) ⌝ }
 {
     fill_file(input, text)

@@ -21,7 +21,8 @@ PiecesAreFile =
     (buffer : List ℕ) (calls : List (Call Stand)) → Calls (lineOf p) (leftBy begun buffer) calls
     → finishOf p (standsFor (lastLeft (leftBy begun buffer) calls)) ≡ fileReport p (joined calls)
 
--- "It prints two lines": in the same way `print_end`, lent 109 bytes or more, puts into them the two lines of that report. (File: pieces-are-printed)
+-- "It prints two lines": in the same way `print_end`, lent 109 bytes or more, and `print_whole`, by
+-- which `check` prints, put into them the two lines of that report. (File: pieces-are-printed)
 abbrev pub PiecesArePrinted : Type 0
 PiecesArePrinted =
     (buffer : List ℕ) (calls : List (Call Stand)) → Calls (lineOf p) (leftBy begun buffer) calls

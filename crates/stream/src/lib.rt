@@ -69,10 +69,11 @@ pub fn print_end(progress: Progress, buf: &[u8], text: &mut [u8]) -> Put
 // The most bytes that `check` prints (memory `ReportShort`).
 pub const TEXT: usize = 109;
 
-// The same with a text of that many bytes, which has room for them.
+// The same with a text of that many bytes: it always has room for them.
 pub fn print_whole(progress: Progress, buf: &[u8], text: &mut [u8; TEXT]) -> Put
-    ensures answer { λ r. ⌜ r ≡ Put.At (length (reportText (finishOf p (standsFor (leftBy progress (now (buf .entry))))))) ⌝ }
+    ensures answer { λ r. ⌜ r ≡ putOf (length (now (text .entry))) 0 (reportText (finishOf p (standsFor (leftBy progress (now (buf .entry)))))) ⌝ }
     ensures slice { λ _. ⌜ now (text .exit) ≡ written (now (text .entry)) 0 (reportText (finishOf p (standsFor (leftBy progress (now (buf .entry)))))) ⌝ }
+    ensures room { λ r. ⌜ r ≡ Put.At (length (reportText (finishOf p (standsFor (leftBy progress (now (buf .entry))))))) ⌝ }
     ensures many { λ _. ⌜ length (now (text .exit)) ≡ length (now (text .entry)) ⌝ }
 {
     print_end(progress, buf, text)

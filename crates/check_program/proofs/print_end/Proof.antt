@@ -19,7 +19,7 @@ returns : tie.Need-returns
 returns c = search needs
 
 slice-aggregate-write-first : tie.Need-slice-aggregate-write-first
-slice-aggregate-write-first c = omega (arith, c .before .before .before .before .print-whole .ensures .1 .1)
+slice-aggregate-write-first c = omega (arith, c .before .before .before .before .print-whole .ensures .1 .1 .1)
 
 write-first-requires : tie.Need-write-first-requires
 write-first-requires c κs = search needs

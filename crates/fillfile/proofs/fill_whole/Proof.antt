@@ -17,7 +17,8 @@ returns c =
     let a = c .before .before .before .args in
     let input = a .input .now in
     let put = c .fill-file .ensures in
-    (put-whole (a .text .now) (fillText p input) (omega (arith, fill-text-short p input)) put .0, (put .1, search needs))
+    let fits = put-whole (a .text .now) (fillText p input) (omega (arith, fill-text-short p input)) put in
+    (put .0, (put .1, (fits .0, search needs)))
 
 pub fill-whole-spec : {M : Type 1} → statement M
 fill-whole-spec = tie.close (tie.spec fill-file-requires returns)

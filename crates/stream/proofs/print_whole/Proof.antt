@@ -20,7 +20,8 @@ returns c =
     let a = c .before .before .before .args in
     let report = finishOf p (standsFor (leftBy (a .progress) (a .buf .now))) in
     let put = c .print-end .ensures in
-    (put-whole (a .text .now) (reportText report) (omega (arith, report-short report)) put .0, (put .1, search needs))
+    let fits = put-whole (a .text .now) (reportText report) (omega (arith, report-short report)) put in
+    (put .0, (put .1, (fits .0, search needs)))
 
 pub print-whole-spec : {M : Type 1} → statement M
 print-whole-spec = tie.close (tie.spec print-end-requires returns)
