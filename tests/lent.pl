@@ -25,7 +25,7 @@ sub copy {
 my $root = getcwd();
 make_path("$tree/crates/lent_cases/src");
 symlink "$root/$_", "$tree/$_" or die "$_: $!\n" for glob 'crates/*';
-copy('crates.txt', 'crates.txt', "lent_cases: checker stream fillfile memory text io libc\n");
+copy('crates.txt', 'crates.txt', "lent_cases: checker stream fillfile field memory text io libc\n");
 copy('tests/lent_cases.txt', 'crates/lent_cases/src/main.rt', '');
 copy('tests/lent_cases.out', 'crates/lent_cases/stdout', '');
 

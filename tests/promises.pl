@@ -1,13 +1,15 @@
 #!/usr/bin/perl
 # Nothing promised disappears unseen. tests/promises.txt lists every promise: its crate, its field
 # of the crate's record Promises, its statement, a must-fail edit that makes it false, and a number
-# for the statement's text; and the clauses of the records that statements and contracts are made
-# of, with a number for the record's text. This test fails where the tree differs:
+# for the statement's text; the clauses of the records that statements and contracts are made of,
+# with a number for the record's text; and the statements with a parameter that others are made of,
+# with a number for each one's text. This test fails where the tree differs:
 #   - a statement of specs/Statements.antt or specs/Cases.antt that is no field of its crate's
 #     Promises,
 #   - a field that proofs/Promises.antt does not fill by a theorem of that statement,
 #   - a field that is not in the list, or a line of the list that is no field,
-#   - a record of these two files that is not in the list, or one of the list with other clauses,
+#   - a record or a statement with a parameter of these two files that is not in the list, or a
+#     record of the list with other clauses,
 #   - a statement or a record whose text has another number: a hypothesis more, say,
 #   - an edit that is not there,
 #   - a public function without a contract, or with a `requires`,
@@ -50,21 +52,26 @@ sub number {
 }
 
 # The promises of the list: each as [crate, field, statement, edit, number]; "crate record" => its
-# clauses, and => its number
-my (@promises, %clauses, %numbers);
+# clauses, and => its number; "crate statement" with a parameter => its number
+my (@promises, %clauses, %numbers, %parts);
 for (grep { !/^#/ && /\S/ } split /\n/, text($list)) {
-    if   (/^(\w+ \w+): (.*) = (\d+)$/) { ($clauses{$1}, $numbers{$1}) = ($2, $3) }
-    else                               { push @promises, [split] }
+    if    (/^(\w+ \w+): (.*) = (\d+)$/) { ($clauses{$1}, $numbers{$1}) = ($2, $3) }
+    elsif (/^(\w+ \w+) = (\d+)$/)       { $parts{$1} = $2 }
+    else                                { push @promises, [split] }
 }
 
-# The statements of the tree: "crate statement" => text; and its records: "crate record" => text
-my (%statements, %records);
+# The statements of the tree: "crate statement" => text; those with a parameter; and its records:
+# "crate record" => text
+my (%statements, %families, %records);
 for my $path (glob 'crates/*/specs/*.antt') {
     my ($crate, $file) = $path =~ m{^crates/(\w+)/specs/(\w+)};
     my $source = text($path);
     my $stated = $file eq 'Statements' || $file eq 'Cases';
     while ($stated && $source =~ /^abbrev pub (\w+) : Type \d\n((?:.+\n)+)/mg) {
         $statements{"$crate $1"} = $2;
+    }
+    while ($stated && $source =~ /^abbrev pub (\w+) : .* → Type \d\n((?:.+\n)+)/mg) {
+        $families{"$crate $1"} = $2;
     }
     while ($source =~ /^pub record (\w+)(.*\n(?:  .*\n)+)/mg) {
         $records{"$crate $1"} = $2 if $stated || $clauses{"$crate $1"};
@@ -76,6 +83,8 @@ if (@ARGV && $ARGV[0] eq 'list') {
     for (split /\n/, text($list)) {
         if (/^(\w+ \w+): (.*?)(?: = \d+)?$/) {
             $_ = "$1: $2 = " . number($records{$1} // '');
+        } elsif (/^(\w+ \w+) = \d+$/) {
+            $_ = "$1 = " . number($families{$1} // '');
         } elsif (/^(\w+) (\w+) (\w+) (\w+)(?: \d+)?$/) {
             $_ = "$1 $2 $3 $4 " . number($statements{"$1 $3"} // '');
         }
@@ -168,6 +177,12 @@ for my $record (sort keys %{ { %records, %clauses } }) {
     test("$record: its text has the number $found", $found && $found == ($numbers{$record} // 0));
 }
 
+# So are the statements with a parameter.
+for my $part (sort keys %{ { %families, %parts } }) {
+    my $found = number($families{$part} // '');
+    test("$part: its text has the number $found", $found && $found == ($parts{$part} // 0));
+}
+
 # Every public function has a contract and asks nothing.
 for my $path (split /\n/, `find crates -name '*.rt'`) {
     my $source = text($path);
@@ -202,7 +217,7 @@ for my $path (split /\n/, `find crates -name '*.antt' -o -name '*.rt' -o -name '
 }
 # names of ops and memories, and words of the toolchain and of the programs
 $known{$_} = 1 for text('crates/memory/specs/Names.antt') =~ /"([a-z]+)"/g;
-$known{$_} = 1 for qw(check fill rt RT_JOBS requires u32);
+$known{$_} = 1 for qw(check fill rt RT_JOBS requires u32 u64);
 
 # Every name that a document cites is one of them.
 for my $document (@documents) {

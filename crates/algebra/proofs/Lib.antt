@@ -6,7 +6,7 @@ pub mod Pigeonhole
 pub mod Order
 pub mod Certificate
 pub mod Mersenne
-mod Mersenne61
+pub mod Mersenne61
 pub mod Plane
 pub mod Roots
 pub mod Line

@@ -1,4 +1,4 @@
--- 2 ^ 61 − 1 is prime, by its certificate: the theorem serves further primes.
+-- 2 ^ 61 − 1 is prime, by its certificate.
 -- Assumes nothing.
 use mathlib.Core.List.{[], _∷_}
 use Rattle.algebra.specs.Prime.{Prime, certified, multiply, power, undivided, tried, proper}

@@ -21,7 +21,7 @@ pub fn refuse_next(c: Context, fault: u32) -> Context
 {
     let mut o = c;
     o.answer = fault;
-    o.line = counters::raise(c.passed, FIRST_LINE);
+    o.line = counters::raise(c.passed, FIRST_LINE as u64);
     o
 }
 
@@ -31,7 +31,7 @@ fn refuse_last(c: Context, fault: u32) -> Context
 {
     let mut o = c;
     o.answer = fault;
-    o.line = counters::raise(c.passed, HEAD_LINES);
+    o.line = counters::raise(c.passed, HEAD_LINES as u64);
     o
 }
 

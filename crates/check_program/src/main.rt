@@ -1,5 +1,6 @@
 // The program `check`: reads standard input to its end and prints the two lines of the report. A failed read is told on standard error, with nothing on
 // standard output; so is a failed write.
+use field::moduli::Modulus;
 use stdio::Read;
 use stream::Progress;
 use text::Put;
@@ -16,7 +17,7 @@ fn print_end(progress: Progress, buf: &[u8]) {
 // Reads to the end of input and prints the report. A proved loop has to end, and nothing says that an input does: the turns are counted down from a number
 // that no run uses up.
 fn run(buf: &mut [u8]) {
-    let mut progress = stream::start();
+    let mut progress = stream::start(Modulus::M31);
     let mut turns = u64::MAX;
     while turns > 0 {
         match stdio::read_behind(buf, progress.kept) {

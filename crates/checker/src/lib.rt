@@ -1,6 +1,8 @@
 // Rows to an answer: the fresh state of a value line, one row, the end of file, and what is printed of a state.
+use field::moduli::Modulus;
 use memory::Challenge;
 use memory::Context;
+use memory::Lent;
 use memory::Memory;
 use memory::Parsed;
 use memory::Products;
@@ -14,8 +16,8 @@ mod state;
 ghost use mathlib.Core.Path.{_≡_};
 ghost use mathlib.Core.Bool.{cond};
 ghost use lib.Dec.{eqb};
-ghost use Rattle.field.specs.Field.{p};
-ghost use Rattle.memory.specs.Step.{freshOf, takeParsed, stepOf, endOf, reportOf, answerOf};
+ghost use Rattle.field.specs.Moduli.{modulusOf};
+ghost use Rattle.memory.specs.Step.{freshOf, takeParsed, stepOf, endOf, reportOf, answerOf, lentStep, lentEnd, lentReport, lentAnswer};
 ghost use Rattle.checker.specs.Unread.{unreadOf};
 
 // A fault of the value line stands on line 2.
@@ -26,10 +28,10 @@ fn fault_line(fault: u32) -> u32
 }
 
 // "The value line makes a fresh state": products start at 1, hashes at 0. Values with a fault make a state that has refused.
-pub fn fresh(memory: Memory, size: u32, count: u32, challenge: Challenge) -> State
-    ensures { λ r. ⌜ r ≡ freshOf p memory size count challenge ⌝ }
+pub fn fresh(k: Modulus, memory: Memory, size: u32, count: u32, challenge: Challenge) -> State
+    ensures { λ r. ⌜ r ≡ freshOf (modulusOf k) memory size count challenge ⌝ }
 {
-    let fault = values::fault(memory, size, count, challenge);
+    let fault = values::fault(k, memory, size, count, challenge);
     let context = Context {
         memory,
         size,
@@ -75,14 +77,16 @@ fn unread_fault(parsed: Parsed) -> u32
     }
 }
 
-// A row that is due, as its line reads. A line that reads as none is refused with its number, on the next line; a number of p or more is 3.
-fn take(s: State, parsed: Parsed) -> State
-    ensures { λ r. ⌜ r ≡ takeParsed p s parsed ⌝ }
+// A row that is due, as its line reads. A line that reads as none is refused with its number, on
+// the next line; a number of the modulus or more is 3.
+fn take(k: Modulus, s: State, parsed: Parsed) -> State
+    ensures { λ r. ⌜ r ≡ takeParsed (modulusOf k) s parsed ⌝ }
 {
     let Parsed::Sound(row) = parsed else {
         return state::refuse(s, unread_fault(parsed));
     };
     if !values::below(
+        k,
         row.guard,
         row.addr,
         row.value,
@@ -92,12 +96,12 @@ fn take(s: State, parsed: Parsed) -> State
     ) {
         return state::refuse(s, numbers::TOO_LARGE);
     }
-    state::take_row(s, row)
+    state::take_row(k, s, row)
 }
 
 // One row, as its line reads. "a surplus line is 7 without being read"
-pub fn step(s: State, parsed: Parsed) -> State
-    ensures { λ r. ⌜ r ≡ stepOf p s parsed ⌝ }
+pub fn step(k: Modulus, s: State, parsed: Parsed) -> State
+    ensures { λ r. ⌜ r ≡ stepOf (modulusOf k) s parsed ⌝ }
 {
     if !answers::takes_rows(s.context) {
         return s;
@@ -105,7 +109,7 @@ pub fn step(s: State, parsed: Parsed) -> State
     if due::total(s.context) <= s.context.passed as u64 {
         return state::refuse(s, numbers::NOT_COMPLETE);
     }
-    take(s, parsed)
+    take(k, s, parsed)
 }
 
 // The end of file.
@@ -120,32 +124,30 @@ pub fn end(s: State) -> State
     o
 }
 
+// A report of these counters.
+fn reported(answer: u32, line: u32, inputs: u32, mults: u32) -> Report
+    ensures { λ r. ⌜ r ≡ record { answer = answer; line = line; inputs = inputs; mults = mults } ⌝ }
+{
+    Report {
+        answer: answer as u64,
+        line: line as u64,
+        inputs: inputs as u64,
+        mults: mults as u64,
+    }
+}
+
 // What is printed of a state: "answer (0 accept), line (0 if accepted), inputs, multiplications (0 if refused)". A state that still takes rows is an incomplete file.
 pub fn report(s: State) -> Report
     ensures { λ r. ⌜ r ≡ reportOf s ⌝ }
 {
     if s.context.answer != 0 {
-        return Report {
-            answer: s.context.answer,
-            line: s.context.line,
-            inputs: 0,
-            mults: 0,
-        };
+        return reported(s.context.answer, s.context.line, 0, 0);
     }
     if s.context.ended {
-        return Report {
-            answer: 0,
-            line: 0,
-            inputs: s.context.inputs,
-            mults: s.context.mults,
-        };
+        return reported(0, 0, s.context.inputs, s.context.mults);
     }
-    Report {
-        answer: numbers::NOT_COMPLETE,
-        line: counters::raise(s.context.passed, memory::FIRST_LINE),
-        inputs: 0,
-        mults: 0,
-    }
+    let line = counters::raise(s.context.passed, memory::FIRST_LINE as u64);
+    reported(numbers::NOT_COMPLETE, line, 0, 0)
 }
 
 // What a call on a lent state answers: 0 and 0 where the state still takes rows, and else what is
@@ -154,31 +156,52 @@ pub fn answer(s: State) -> Report
     ensures { λ r. ⌜ r ≡ answerOf s ⌝ }
 {
     if answers::takes_rows(s.context) {
-        return Report {
-            answer: 0,
-            line: 0,
-            inputs: 0,
-            mults: 0,
-        };
+        return reported(0, 0, 0, 0);
     }
     report(s)
 }
 
+// A row, the end of file and the answer of a state with its modulus.
+fn lent_step(l: Lent, parsed: Parsed) -> Lent
+    ensures { λ r. ⌜ r ≡ lentStep l parsed ⌝ }
+{
+    let field = l.field;
+    let before = l.state;
+    let state = step(field, before, parsed);
+    Lent { field, state }
+}
+
+fn lent_end(l: Lent) -> Lent
+    ensures { λ r. ⌜ r ≡ lentEnd l ⌝ }
+{
+    let field = l.field;
+    let before = l.state;
+    let state = end(before);
+    Lent { field, state }
+}
+
+fn lent_answer(l: Lent) -> Report
+    ensures { λ r. ⌜ r ≡ lentAnswer l ⌝ }
+{
+    let state = l.state;
+    answer(state)
+}
+
 // "The checker's state is lent and advanced in place by a row." The answer is that of the state
 // afterwards: a row that is taken is told from every refusal.
-pub fn row_in_place(s: &mut State, parsed: Parsed) -> Report
-    ensures { λ r. ⌜ (now (s .exit) ≡ stepOf p (now (s .entry)) parsed) × (r ≡ answerOf (stepOf p (now (s .entry)) parsed)) ⌝ }
+pub fn row_in_place(s: &mut Lent, parsed: Parsed) -> Report
+    ensures { λ r. ⌜ (now (s .exit) ≡ lentStep (now (s .entry)) parsed) × (r ≡ lentAnswer (lentStep (now (s .entry)) parsed)) ⌝ }
 {
-    let next = step(*s, parsed);
+    let next = lent_step(*s, parsed);
     *s = next;
-    answer(next)
+    lent_answer(next)
 }
 
 // The end of file, of a state that is lent. No rows are taken then, so the answer is what is printed.
-pub fn end_in_place(s: &mut State) -> Report
-    ensures { λ r. ⌜ (now (s .exit) ≡ endOf (now (s .entry))) × (r ≡ reportOf (endOf (now (s .entry)))) ⌝ }
+pub fn end_in_place(s: &mut Lent) -> Report
+    ensures { λ r. ⌜ (now (s .exit) ≡ lentEnd (now (s .entry))) × (r ≡ lentReport (lentEnd (now (s .entry)))) ⌝ }
 {
-    let next = end(*s);
+    let next = lent_end(*s);
     *s = next;
-    answer(next)
+    lent_answer(next)
 }

@@ -71,8 +71,8 @@ digits-more value i b ds = ap {B = Run} (λ n. record { value = decimalFrom (val
 pub digit-below : (k value d : ℕ) → value < 10 ^ k → d ≤ 9 → value * 10 + d < 10 ^ (k + 1)
 digit-below k value d small few = rw (add-one k, pow-suc 10 k) (omega arith)
 
--- so ten digits and one more fit
-pub digits-fit : (k value : ℕ) → value < 10 ^ k → k ≤ 10 → value < 10 ^ 10
+-- so 18 digits and one more fit 64 bits
+pub digits-fit : (k value : ℕ) → value < 10 ^ k → k ≤ 18 → value < 10 ^ 18
 digits-fit k value small most = omega (arith, pow-le-pow-right (zero-lt-suc 9) most)
 
 -- Digits are being read from a position on: the number of those before position i, and what those from i on still bring
@@ -111,7 +111,6 @@ module _ (text : List ℕ) (from stop value i : ℕ) (running : Running text fro
   pub running-over : stop ≤ i → record { value = value; next = i } ≡ digitsOf 0 from (run (stop - from) (drop from text))
   running-over over = sym (digits-none value i) ∙ ap (digitsOf value i) (sym (run-over (drop i text) stop i over)) ∙ running .rest
 
-  -- and its number is one of ten digits at most
-  pub running-fits : stop ≤ from + most → value < 10 ^ 10
-  unfolding most
-  running-fits most = digits-fit (i - from) value (running .small) (omega arith)
+  -- and its number is one of 18 digits at most where one more is to come
+  pub running-fits : i < stop → stop ≤ from + 19 → value < 10 ^ 18
+  running-fits more most = digits-fit (i - from) value (running .small) (omega arith)

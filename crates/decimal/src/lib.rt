@@ -3,7 +3,7 @@
 ghost use mathlib.Core.Path.{_≡_};
 ghost use Prim.Native.Nat.{_+_, _-_, _≤_, min};
 ghost use lib.ListN.{length, drop};
-ghost use Rattle.decimal.specs.Numbers.{most, run, digitsOf, numberFrom};
+ghost use Rattle.decimal.specs.Numbers.{run, digitsOf, numberFrom};
 use std::num;
 
 // The byte before each number.
@@ -33,9 +33,9 @@ pub fn smaller(a: usize, b: usize) -> usize
     if a < b { a } else { b }
 }
 
-// The digits from a position on, before `stop`.
+// The digits from a position on, before `stop`: 19 at most, whose number has 64 bits.
 fn digits_at(text: &[u8], from: usize, stop: usize) -> Run
-    requires { ⌜ (from ≤ stop) × (stop ≤ length (now text)) × (stop ≤ from + most) ⌝ }
+    requires { ⌜ (from ≤ stop) × (stop ≤ length (now text)) × (stop ≤ from + 19) ⌝ }
     ensures { λ r. ⌜ r ≡ digitsOf 0 from (run (stop - from) (drop from (now (text .entry)))) ⌝ }
 {
     let mut value: u64 = 0;

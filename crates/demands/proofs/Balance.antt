@@ -87,7 +87,7 @@ challenges-monotone q f g h =
 -- all challenges are counted
 pub challenges-counted : ChallengesCounted
 unfolding challenges challengesOf counts sums
-challenges-counted = refl
+challenges-counted q = refl
 
 -- a test that never passes is passed by no challenge
 pub challenges-none : (q : ℕ) (f : Challenge → Bool) → ((ch : Challenge) → f ch ≡ true → ⊥) → challenges q f ≡ 0

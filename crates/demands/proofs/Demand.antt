@@ -1,5 +1,6 @@
--- Demand 3 of document 01: for any prime that has room for the size and the count, and for p. What no challenge accepts, and the bound on the
--- challenges that accept a wrong trace, are shown here; that a right trace with the filler's advice is accepted is honest-clause.
+-- Demand 3 of document 01: for any prime that has room for the size and the count, and for each
+-- modulus of a file. What no challenge accepts, and the bound on the challenges that accept a wrong
+-- trace, are shown here; that a right trace with the filler's advice is accepted is honest-clause.
 -- Assumes nothing.
 use Prim.Native.Nat.{ℕ, _+_, _*_, _^_, _≤_, _<_}
 use mathlib.Core.Path.{_≡_, refl, sym, _∙_}
@@ -12,7 +13,12 @@ use lib.Dec.{leb, ltb}
 use borrow.Author.Tests.{eqb-true, leb-true}
 use Rattle.algebra.specs.Prime.{Prime}
 use Rattle.algebra.proofs.Mersenne.{prime-p}
+use Rattle.algebra.proofs.Mersenne61.{prime-61}
 use Rattle.field.specs.Field.{p}
+use Rattle.field.specs.Wide.{p61}
+use Rattle.field.specs.declared.moduli.Modulus.{Modulus}
+use Rattle.field.specs.declared.moduli.Modulus.the-variants.{M31, M61, Small}
+use Rattle.field.specs.Moduli.{modulusOf, fileModulus}
 use Rattle.memory.specs.declared.Memory.{Memory}
 use Rattle.memory.specs.declared.Memory.the-variants.{Ram, Rom, Set, Stack, Queue}
 use Rattle.memory.specs.declared.Parsed.{Parsed}
@@ -23,7 +29,7 @@ use Rattle.memory.specs.File.{firstFault, rowsOf, valuesFault}
 use Rattle.runs.specs.Plain.{right, traceOf}
 use Rattle.memory.specs.Bound.{accepts, challenges, malformed, degree}
 use Rattle.memory.specs.Statements.{Holds}
-use Rattle.demands.specs.Statements.{Demand, DemandAt, DemandThree}
+use Rattle.demands.specs.Statements.{FileModuli, ModuliPrime, Demand, DemandAt, DemandThree}
 use Rattle.demands.proofs.Balance.{challenges-none}
 use Rattle.memory.proofs.ReadRows.{both-pass, chosen-zero}
 use Rattle.memory.proofs.Phases.{no-fault-below}
@@ -158,13 +164,33 @@ demand-of-malformed q m n t xs two over = record {
     impossible : malformed q m n t xs ≡ false → ⊥
     impossible good = true≢false (sym (well-sized q m n t xs good) ∙ over)
 
--- Demand 3
-pub demand-three : DemandThree
-unfolding p limit
-demand-three m n t xs =
+-- Demand 3 for any prime that has room for all sizes and counts
+demand-roomy : (q : ℕ) (m : Memory) (n t : ℕ) (xs : List Parsed) → Prime q → 2 * limit ≤ q → Demand q m n t xs
+unfolding limit
+demand-roomy q m n t xs prime wide =
     by-test (allowed m n t)
     (λ fine.
     let count : t ≤ limit = allowed-sized m n t fine .1 in
     let size : n ≤ limit = sized-limit m n (allowed-sized m n t fine .0) in
-    demand-at p m n t xs prime-p (omega arith) (omega arith) (omega arith))
-    (λ over. demand-of-malformed p m n t xs (prime-p .two) over)
+    demand-at q m n t xs prime (omega arith) (omega arith) (omega arith))
+    (λ over. demand-of-malformed q m n t xs (prime .two) over)
+
+-- each modulus of a file is a prime with that room
+pub file-prime : (k : Modulus) → fileModulus k ≡ true → (Prime (modulusOf k)) × (2 * limit ≤ modulusOf k)
+unfolding p p61 limit modulusOf fileModulus
+file-prime M31 named = (prime-p, omega arith)
+file-prime M61 named = (prime-61, omega arith)
+file-prime (Small k) named = absurd (true≢false (sym named))
+
+pub file-moduli : FileModuli
+unfolding p p61 modulusOf fileModulus
+file-moduli = ((refl, refl), (refl, refl))
+
+pub moduli-prime : ModuliPrime
+moduli-prime k named = file-prime k named .0
+
+-- Demand 3, for each modulus of a file
+pub demand-three : DemandThree
+demand-three k m n t xs named =
+    let prime = file-prime k named in
+    demand-roomy (modulusOf k) m n t xs (prime .0) (prime .1)

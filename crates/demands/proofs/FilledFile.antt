@@ -11,7 +11,8 @@ use lib.Dec.{eqb, leb, ltb}
 use lib.ListN.{length, getD, take, drop, length-append, take-append-drop, length-drop}
 use lib.Seq.{length-take-le}
 use borrow.Author.Tests.{eqb-true, eqb-false, leb-true, ltb-true, ltb-false}
-use Rattle.field.specs.Field.{p}
+use Rattle.field.specs.declared.moduli.Modulus.the-variants.{M31}
+use Rattle.field.specs.Moduli.{modulusOf}
 use Rattle.memory.specs.declared.Memory.{Memory}
 use Rattle.memory.specs.declared.Op.{Op}
 use Rattle.memory.specs.declared.Phase.the-variants.{Starting, Operating}
@@ -24,11 +25,11 @@ use Rattle.runs.specs.Filler.{Placed, inputFault, rowsFault}
 use Rattle.memory.specs.Print.{refusalText, filledText, headerText}
 use Rattle.runs.specs.FillFile.{fillLimit, fillAllowed, Job, job, noJob, jobFields, jobOf, jobRead, parseJob, InputLine, sound, faulty, inputFields, inputRead, parseInput, inputLineFault, inputsFault, inputOfLine, inputsOfLines, runText, inputsText, jobText, jobLinesText, fillLinesText, fillText}
 use Rattle.runs.specs.FillStream.{late}
-use Rattle.demands.specs.Statements.{Fillable, FillNumber, FillAccepted, FillingAccepted}
+use Rattle.demands.specs.Statements.{Fillable, FillNumber, FillAccepted, FillingAccepted, FillingAtP}
 use Rattle.memory.proofs.ReadFields.{decided, read-fields}
 use Rattle.memory.proofs.ReadRows.{both-pass, chosen-zero}
 use Rattle.runs.proofs.HonestLookups.{All}
-use Rattle.demands.proofs.HonestFile.{honest-file-accepted}
+use Rattle.demands.proofs.HonestFile.{honest-file-accepted, written-p}
 use Rattle.demands.proofs.FillTested.{tested-rows-late}
 
 -- A value line reads as a size and count that are allowed, or as a fault.
@@ -96,8 +97,8 @@ inputs-counted q m n t k (x ∷ xs) low good e =
     )
 
 -- What is printed of rows, of lines and of the whole input.
-record Run (m : Memory) (n t : ℕ) (rows : List Input) (text : List ℕ) : Type 0 where
-  fillable : Fillable m n t (take n rows) (drop n rows)
+record Run (q : ℕ) (m : Memory) (n t : ℕ) (rows : List Input) (text : List ℕ) : Type 0 where
+  fillable : Fillable q m n t (take n rows) (drop n rows)
   filled : text ≡ filledText (filledRows m t (take n rows) (drop n rows))
 
 record Refused (text : List ℕ) : Type 0 where
@@ -152,115 +153,119 @@ small-inputs q m n t k (x ∷ xs) good =
     small-first (eqb (cond (ltb k (n + t)) (inputLineFault q m n k x) 7) 0) _ (k + 4) (inputsFault q m n t (suc k) xs)
     (small-either (ltb k (n + t)) _ 7 (small-line q m n k x (good .0)) (omega arith)) (small-inputs q m n t (suc k) xs (good .1))
 
-run-printed : (m : Memory) (n t : ℕ) (rows : List Input) → allowed m n t ≡ true → length rows ≡ n + t
-    → late (rowsFault p m (map (λ i. i .value) (take n rows)) 1 (take n rows) (drop n rows) .number) ≡ true
-    → Refused (runText p m n t rows) ⊎ Run m n t rows (runText p m n t rows)
-unfolding runText
-run-printed m n t rows fit long after = go (eqb (f .number) 0) refl
-  where
-    f : Placed
-    f = rowsFault p m (map (λ i. i .value) (take n rows)) 1 (take n rows) (drop n rows)
+module _ (q : ℕ) where
+  run-printed : (m : Memory) (n t : ℕ) (rows : List Input) → allowed m n t ≡ true → length rows ≡ n + t
+      → late (rowsFault q m (map (λ i. i .value) (take n rows)) 1 (take n rows) (drop n rows) .number) ≡ true
+      → Refused (runText q m n t rows) ⊎ Run q m n t rows (runText q m n t rows)
+  unfolding runText
+  run-printed m n t rows fit long after = go (eqb (f .number) 0) refl
+    where
+      f : Placed
+      f = rowsFault q m (map (λ i. i .value) (take n rows)) 1 (take n rows) (drop n rows)
 
-    honest : List ℕ
-    honest = filledText (filledRows m t (take n rows) (drop n rows))
+      honest : List ℕ
+      honest = filledText (filledRows m t (take n rows) (drop n rows))
 
-    go : (b : Bool) → eqb (f .number) 0 ≡ b
-        → Refused (cond b honest (refusalText (f .number) (f .place + 3))) ⊎ Run m n t rows (cond b honest (refusalText (f .number) (f .place + 3)))
-    go true test =
-        inr (record {
-          fillable = record {
-            fit = fit;
-            size = length-take-le n rows (omega arith);
-            count = omega (arith, length-drop n rows, long);
-            unrefused = eqb-true (f .number) 0 test;
-          };
-          filled = refl;
-        })
-    go false test = inl (refused-late (f .number) (f .place + 3) after test)
+      go : (b : Bool) → eqb (f .number) 0 ≡ b
+          → Refused (cond b honest (refusalText (f .number) (f .place + 3))) ⊎ Run q m n t rows (cond b honest (refusalText (f .number) (f .place + 3)))
+      go true test =
+          inr (record {
+            fillable = record {
+              fit = fit;
+              size = length-take-le n rows (omega arith);
+              count = omega (arith, length-drop n rows, long);
+              unrefused = eqb-true (f .number) 0 test;
+            };
+            filled = refl;
+          })
+      go false test = inl (refused-late (f .number) (f .place + 3) after test)
 
-inputs-printed : (m : Memory) (n t : ℕ) (lines : List Line) → allowed m n t ≡ true
-    → Refused (inputsText p m n t (map (parseInput p) lines)) ⊎ Run m n t (inputsOfLines (map (parseInput p) lines)) (inputsText p m n t (map (parseInput p) lines))
-unfolding inputsText
-inputs-printed m n t lines fit = go (eqb (f .number) 0) refl
-  where
-    xs : List InputLine
-    xs = map (parseInput p) lines
+  inputs-printed : (m : Memory) (n t : ℕ) (lines : List Line) → allowed m n t ≡ true
+      → Refused (inputsText q m n t (map (parseInput q) lines)) ⊎ Run q m n t (inputsOfLines (map (parseInput q) lines)) (inputsText q m n t (map (parseInput q) lines))
+  unfolding inputsText
+  inputs-printed m n t lines fit = go (eqb (f .number) 0) refl
+    where
+      xs : List InputLine
+      xs = map (parseInput q) lines
 
-    f : Refusal
-    f = inputsFault p m n t 0 xs
+      f : Refusal
+      f = inputsFault q m n t 0 xs
 
-    go : (b : Bool) → eqb (f .number) 0 ≡ b
-        → Refused (cond b (runText p m n t (inputsOfLines xs)) (refusalText (f .number) (f .line)))
-        ⊎ Run m n t (inputsOfLines xs) (cond b (runText p m n t (inputsOfLines xs)) (refusalText (f .number) (f .line)))
-    go true test =
-        run-printed m n t (inputsOfLines xs) fit
-        (omega (arith, inputs-counted p m n t 0 xs (omega arith) (good-lines p lines) (eqb-true (f .number) 0 test)))
-        (tested-rows-late p m n t lines (eqb-true (f .number) 0 test))
-    go false test = inl (refused-by (f .number) (f .line) (small-inputs p m n t 0 xs (good-lines p lines)) test)
+      go : (b : Bool) → eqb (f .number) 0 ≡ b
+          → Refused (cond b (runText q m n t (inputsOfLines xs)) (refusalText (f .number) (f .line)))
+          ⊎ Run q m n t (inputsOfLines xs) (cond b (runText q m n t (inputsOfLines xs)) (refusalText (f .number) (f .line)))
+      go true test =
+          run-printed m n t (inputsOfLines xs) fit
+          (omega (arith, inputs-counted q m n t 0 xs (omega arith) (good-lines q lines) (eqb-true (f .number) 0 test)))
+          (tested-rows-late q m n t lines (eqb-true (f .number) 0 test))
+      go false test = inl (refused-by (f .number) (f .line) (small-inputs q m n t 0 xs (good-lines q lines)) test)
 
--- of the lines: a value line that asks for a memory, size and count, and the rows from line 4 on
-record Printed (lines : List Line) (text : List ℕ) : Type 0 where
-  memory : Memory
-  size : ℕ
-  count : ℕ
-  asked : parseJob p (getD lines 1 (record { text = []; ended = false })) ≡ job memory size count
-  run : Run memory size count (inputsOfLines (map (parseInput p) (drop 3 lines))) text
+  -- of the lines: a value line that asks for a memory, size and count, and the rows from line 4 on
+  record Printed (lines : List Line) (text : List ℕ) : Type 0 where
+    memory : Memory
+    size : ℕ
+    count : ℕ
+    asked : parseJob q (getD lines 1 (record { text = []; ended = false })) ≡ job memory size count
+    run : Run q memory size count (inputsOfLines (map (parseInput q) (drop 3 lines))) text
 
-rows-printed : (m : Memory) (n t : ℕ) (first value names : Line) (lines : List Line) → parseJob p value ≡ job m n t → allowed m n t ≡ true
-    → Refused (jobText p (job m n t) (names ∷ lines)) ⊎ Printed (first ∷ value ∷ names ∷ lines) (jobText p (job m n t) (names ∷ lines))
-unfolding jobText
-rows-printed m n t first value names lines asked fit = go (eqb (namesFault inputNames names) 0) refl
-  where
-    text : List ℕ
-    text = inputsText p m n t (map (parseInput p) lines)
+  rows-printed : (m : Memory) (n t : ℕ) (first value names : Line) (lines : List Line) → parseJob q value ≡ job m n t → allowed m n t ≡ true
+      → Refused (jobText q (job m n t) (names ∷ lines)) ⊎ Printed (first ∷ value ∷ names ∷ lines) (jobText q (job m n t) (names ∷ lines))
+  unfolding jobText
+  rows-printed m n t first value names lines asked fit = go (eqb (namesFault inputNames names) 0) refl
+    where
+      text : List ℕ
+      text = inputsText q m n t (map (parseInput q) lines)
 
-    fault : List ℕ
-    fault = refusalText (namesFault inputNames names) 3
+      fault : List ℕ
+      fault = refusalText (namesFault inputNames names) 3
 
-    go : (b : Bool) → eqb (namesFault inputNames names) 0 ≡ b → Refused (cond b text fault) ⊎ Printed (first ∷ value ∷ names ∷ lines) (cond b text fault)
-    go true test =
-        elim (inputs-printed m n t lines fit) [
-          | inl r ↦ inl r
-          | inr w ↦ inr (record { memory = m; size = n; count = t; asked = asked; run = w })
-        ]
-    go false test = inl (refused-by (namesFault inputNames names) 3 (small-names inputNames names) test)
+      go : (b : Bool) → eqb (namesFault inputNames names) 0 ≡ b → Refused (cond b text fault) ⊎ Printed (first ∷ value ∷ names ∷ lines) (cond b text fault)
+      go true test =
+          elim (inputs-printed m n t lines fit) [
+            | inl r ↦ inl r
+            | inr w ↦ inr (record { memory = m; size = n; count = t; asked = asked; run = w })
+          ]
+      go false test = inl (refused-by (namesFault inputNames names) 3 (small-names inputNames names) test)
 
-job-printed : (first value : Line) (j : Job) (lines : List Line) → parseJob p value ≡ j → GoodJob j
-    → Refused (jobText p j lines) ⊎ Printed (first ∷ value ∷ lines) (jobText p j lines)
-job-printed first value (noJob f) lines asked good = inl (record { number = f; line = 2; fault = inl good; printed = unfold jobText in refl })
-job-printed first value (job m n t) [] asked good = inl (record { number = 7; line = 3; fault = inl (omega arith, omega arith); printed = unfold jobText in refl })
-job-printed first value (job m n t) (names ∷ lines) asked good = rows-printed m n t first value names lines asked good
+  job-printed : (first value : Line) (j : Job) (lines : List Line) → parseJob q value ≡ j → GoodJob j
+      → Refused (jobText q j lines) ⊎ Printed (first ∷ value ∷ lines) (jobText q j lines)
+  job-printed first value (noJob f) lines asked good = inl (record { number = f; line = 2; fault = inl good; printed = unfold jobText in refl })
+  job-printed first value (job m n t) [] asked good = inl (record { number = 7; line = 3; fault = inl (omega arith, omega arith); printed = unfold jobText in refl })
+  job-printed first value (job m n t) (names ∷ lines) asked good = rows-printed m n t first value names lines asked good
 
-opened-printed : (first : Line) (lines : List Line) → Refused (jobLinesText p lines) ⊎ Printed (first ∷ lines) (jobLinesText p lines)
-unfolding jobLinesText
-opened-printed first [] = inl (record { number = 7; line = 2; fault = inl (omega arith, omega arith); printed = refl })
-opened-printed first (value ∷ lines) = job-printed first value (parseJob p value) lines refl (good-job p value)
+  opened-printed : (first : Line) (lines : List Line) → Refused (jobLinesText q lines) ⊎ Printed (first ∷ lines) (jobLinesText q lines)
+  unfolding jobLinesText
+  opened-printed first [] = inl (record { number = 7; line = 2; fault = inl (omega arith, omega arith); printed = refl })
+  opened-printed first (value ∷ lines) = job-printed first value (parseJob q value) lines refl (good-job q value)
 
-lines-printed : (lines : List Line) → Refused (fillLinesText p lines) ⊎ Printed lines (fillLinesText p lines)
-unfolding fillLinesText
-lines-printed [] = inl (record { number = 1; line = 1; fault = inl (omega arith, omega arith); printed = refl })
-lines-printed (first ∷ lines) = go (eqb (namesFault fillNames first) 0) refl
-  where
-    fault : List ℕ
-    fault = refusalText (namesFault fillNames first) 1
+  lines-printed : (lines : List Line) → Refused (fillLinesText q lines) ⊎ Printed lines (fillLinesText q lines)
+  unfolding fillLinesText
+  lines-printed [] = inl (record { number = 1; line = 1; fault = inl (omega arith, omega arith); printed = refl })
+  lines-printed (first ∷ lines) = go (eqb (namesFault fillNames first) 0) refl
+    where
+      fault : List ℕ
+      fault = refusalText (namesFault fillNames first) 1
 
-    go : (b : Bool) → eqb (namesFault fillNames first) 0 ≡ b
-        → Refused (cond b (jobLinesText p lines) fault) ⊎ Printed (first ∷ lines) (cond b (jobLinesText p lines) fault)
-    go true test = opened-printed first lines
-    go false test = inl (refused-by (namesFault fillNames first) 1 (small-names fillNames first) test)
+      go : (b : Bool) → eqb (namesFault fillNames first) 0 ≡ b
+          → Refused (cond b (jobLinesText q lines) fault) ⊎ Printed (first ∷ lines) (cond b (jobLinesText q lines) fault)
+      go true test = opened-printed first lines
+      go false test = inl (refused-by (namesFault fillNames first) 1 (small-names fillNames first) test)
 
 -- What the filling program prints is a refusal, or is accepted behind its header at every challenge.
 pub filling-accepted : FillingAccepted
 unfolding fillText
-filling-accepted bytes =
-    elim (lines-printed (linesOf bytes)) [
+filling-accepted k written bytes =
+    elim (lines-printed q (linesOf bytes)) [
       | inl r ↦ inl (record { number = r .number; line = r .line; fault = r .fault; printed = r .printed })
       | inr w ↦ inr (accepted-print w)
     ]
   where
-    accepted-print : Printed (linesOf bytes) (fillLinesText p (linesOf bytes)) → FillAccepted bytes
+    q : ℕ
+    q = modulusOf k
+
+    accepted-print : Printed q (linesOf bytes) (fillLinesText q (linesOf bytes)) → FillAccepted q bytes
     accepted-print w =
-        let rows = inputsOfLines (map (parseInput p) (drop 3 (linesOf bytes))) in
+        let rows = inputsOfLines (map (parseInput q) (drop 3 (linesOf bytes))) in
         let inits = take (w .size) rows in
         let ops = drop (w .size) rows in
         record {
@@ -274,6 +279,10 @@ filling-accepted bytes =
           fillable = w .run .fillable;
           printed = w .run .filled;
           accepted =
-              λ ch elements. ap (λ (text : List ℕ). fileReport p (headerText (w .memory) (w .size) (w .count) ch ++ text)) (w .run .filled)
-              ∙ honest-file-accepted (w .memory) (w .size) (w .count) inits ops ch (w .run .fillable) elements;
+              λ ch elements. ap (λ (text : List ℕ). fileReport q (headerText (w .memory) (w .size) (w .count) ch ++ text)) (w .run .filled)
+              ∙ honest-file-accepted k written (w .memory) (w .size) (w .count) inits ops ch (w .run .fillable) elements;
         }
+
+pub filling-at-p : FillingAtP
+unfolding modulusOf
+filling-at-p = filling-accepted M31 written-p

@@ -1,7 +1,7 @@
 -- What the filler writes is accepted at every challenge: the lines of the header and of the filler's rows, what the value line reads as, and the report of the
 -- file and of the rows handed one call at a time.
 -- Assumes nothing.
-use Prim.Native.Nat.{ℕ, _+_, _≤_, _<_}
+use Prim.Native.Nat.{ℕ, _+_, _*_, _≤_, _<_}
 use native.Mathlib.Omega.{arith}
 use mathlib.Core.Path.{_≡_, refl, sym, _∙_, ap, ap₂}
 use mathlib.Core.Bool.{true}
@@ -10,8 +10,9 @@ use mathlib.Core.List.{List, [], _∷_, _++_, map, append-assoc}
 use lib.ListN.{length, length-append}
 use borrow.Author.Tests.{lt-ltb}
 use Rattle.algebra.specs.Prime.{Prime}
-use Rattle.algebra.proofs.Mersenne.{prime-p}
 use Rattle.field.specs.Field.{p}
+use Rattle.field.specs.declared.moduli.Modulus.the-variants.{M31}
+use Rattle.field.specs.Moduli.{modulusOf, fileModulus}
 use Rattle.memory.specs.declared.Memory.{Memory}
 use Rattle.memory.specs.declared.Memory.the-variants.{Ram, Rom, Set, Stack, Queue}
 use Rattle.memory.specs.declared.Row.{Row}
@@ -27,7 +28,7 @@ use Rattle.runs.specs.Honest.{Input, filledRows}
 use Rattle.memory.specs.Print.{numberText, rowsText, filledText, headerText}
 use Rattle.memory.specs.Step.{stepsOf, freshOf, endOf, reportOf}
 use Rattle.memory.specs.Bound.{elements}
-use Rattle.demands.specs.Statements.{Fillable, acceptance, HonestFileAccepted, HonestRunAccepted}
+use Rattle.demands.specs.Statements.{Fillable, acceptance, Written, HonestRunAccepted, HonestFileAccepted, HonestFileAtP}
 use Rattle.memory.proofs.Fold.{fold-is-file}
 use Rattle.memory.proofs.WholeFile.{whole, whole-names}
 use Rattle.memory.proofs.Phases.{Parts, parts-no-fault}
@@ -39,7 +40,7 @@ use Rattle.demands.proofs.Advice.{valuesOf, Unrefused, no-refusal}
 use Rattle.demands.proofs.HonestRows.{filled-parts}
 use Rattle.demands.proofs.HonestBalances.{filled-balances, values-pass}
 use Rattle.demands.proofs.FilledBelow.{filled-printable-rows, filled-below}
-use Rattle.demands.proofs.Demand.{sized-limit, allowed-sized}
+use Rattle.demands.proofs.Demand.{sized-limit, allowed-sized, file-prime}
 
 -- The names of the memories: their bytes are above the comma, they have at most 5, and a memory's name is that memory's.
 memory-above : (m : Memory) → above comma (memoryName m) ≡ true
@@ -131,21 +132,21 @@ value-length m n t ch h =
     )
 
 -- and reads as its values
-value-line-back : (q : ℕ) (m : Memory) (n t : ℕ) (ch : Challenge) → q ≤ tenDigits → allBelow q (valuesIn n t ch) ≡ true
+value-line-back : (q : ℕ) (m : Memory) (n t : ℕ) (ch : Challenge) → q ≤ tenDigits → allowed m n t ≡ true → allBelow q (valuesIn n t ch) ≡ true
     → parseValues q (whole (valueText m n t ch)) ≡ opens m n t ch
 unfolding parseValues valuesRead openedBy whole valueText valuesIn
-value-line-back q m n t ch h below =
+value-line-back q m n t ch h fine below =
     let digits : allBelow tenDigits (valuesIn n t ch) ≡ true = allBelow-more q tenDigits (valuesIn n t ch) h below in
     let read = fields-back q (memoryName m) (valuesIn n t ch) h (memory-above m) below (omega (arith, value-length m n t ch digits)) in
-    rw (read, memory-back m)
+    rw (read, memory-back m, fine)
 
 -- A file with a right header is what its rows are.
-file-of-rows : (q : ℕ) (m : Memory) (n t : ℕ) (ch : Challenge) (rows : List Row) → q ≤ tenDigits → allBelow q (valuesIn n t ch) ≡ true → valuesFault q m n t ch ≡ 0
+file-of-rows : (q : ℕ) (m : Memory) (n t : ℕ) (ch : Challenge) (rows : List Row) → q ≤ tenDigits → allowed m n t ≡ true → allBelow q (valuesIn n t ch) ≡ true → valuesFault q m n t ch ≡ 0
     → fileReport q (headerText m n t ch ++ filledText rows) ≡ valuesReport q m n t ch (parseRows q (linesOf (rowsText rows)))
 unfolding fileReport linesReport openingReport namesReport
-file-of-rows q m n t ch rows h below pass =
+file-of-rows q m n t ch rows h fine below pass =
     ap (linesReport q) (file-lines m n t ch rows)
-    ∙ rw (whole-names valueNames, value-line-back q m n t ch h below, pass, whole-names rowNames)
+    ∙ rw (whole-names valueNames, value-line-back q m n t ch h fine below, pass, whole-names rowNames)
 
 -- Rows of no fault whose lists balance are accepted.
 rows-of-sound : (rows : List Row) → rowsOf (map Sound rows) ≡ rows
@@ -178,68 +179,72 @@ accepted-by-formula q m n t rows fit parts =
     let gates = parts-gates q m n t rows (allowed-sized m n t fit .0) parts in
     ap₂ {C = Report} (λ i k. record { answer = 0; line = 0; inputs = i; mults = k }) (gates .0) (gates .1)
 
--- the prime of document 01
-field-prime : Prime p
-unfolding p
-field-prime = prime-p
-
--- What the filler writes, at the prime of document 01.
-module _ (m : Memory) (n t : ℕ) (inits ops : List Input) (ch : Challenge) (f : Fillable m n t inits ops) (inside : elements p ch ≡ true) where
+-- What the filler writes, at any prime that has room for all sizes and counts.
+module _ (q : ℕ) (prime : Prime q) (wide : 2 * limit ≤ q) (m : Memory) (n t : ℕ) (inits ops : List Input) (ch : Challenge) (f : Fillable q m n t inits ops) (inside : elements q ch ≡ true) where
   rows : List Row
   rows = filledRows m t inits ops
 
-  unrefused : Unrefused p m (valuesOf inits) inits ops
-  unrefused = no-refusal p m (valuesOf inits) 1 inits ops (f .unrefused)
+  unrefused : Unrefused q m (valuesOf inits) inits ops
+  unrefused = no-refusal q m (valuesOf inits) 1 inits ops (f .unrefused)
 
-  small : (n < p) × (t + 1 < p)
-  unfolding p limit
+  small : (n < q) × (t + 1 < q)
+  unfolding limit
   small =
       let size = sized-limit m n (allowed-sized m n t (f .fit) .0) in
       let count = allowed-sized m n t (f .fit) .1 in
       (omega arith, omega arith)
 
-  digits-enough : p ≤ tenDigits
-  unfolding p
-  digits-enough = omega arith
-
-  counts-below : allBelow p (n ∷ t ∷ []) ≡ true
+  counts-below : allBelow q (n ∷ t ∷ []) ≡ true
   unfolding allBelow
-  counts-below = rw (lt-ltb n p (small .0), lt-ltb t p (omega (arith, small .1)))
+  counts-below = rw (lt-ltb n q (small .0), lt-ltb t q (omega (arith, small .1)))
 
-  pass : valuesFault p m n t ch ≡ 0
-  pass = values-pass p m n t ch counts-below (f .fit) inside
+  pass : valuesFault q m n t ch ≡ 0
+  pass = values-pass q m n t ch counts-below (f .fit) inside
 
-  values : allBelow p (valuesIn n t ch) ≡ true
+  values : allBelow q (valuesIn n t ch) ≡ true
   unfolding allBelow valuesIn
-  values = rw (lt-ltb n p (small .0), lt-ltb t p (omega (arith, small .1)), inside)
+  values = rw (lt-ltb n q (small .0), lt-ltb t q (omega (arith, small .1)), inside)
 
-  parts : Parts p m n t rows
+  parts : Parts q m n t rows
   unfolding rows
-  parts = filled-parts p m n t inits ops field-prime (small .1) (f .size) (f .count) unrefused
+  parts = filled-parts q m n t inits ops prime (small .1) (f .size) (f .count) unrefused
 
   -- their report
-  rows-accepted : valuesReport p m n t ch (map Sound rows) ≡ acceptance m n t rows
+  rows-accepted : valuesReport q m n t ch (map Sound rows) ≡ acceptance m n t rows
   unfolding rows filled
   rows-accepted =
-      filled-report p m n t inits ops ch field-prime (small .1) (f .size) (f .count) unrefused pass ∙ accepted-by-formula p m n t rows (f .fit) parts
+      filled-report q m n t inits ops ch prime (small .1) (f .size) (f .count) unrefused pass ∙ accepted-by-formula q m n t rows (f .fit) parts
 
-  -- and what their lines read as
-  lines-read : parseRows p (linesOf (rowsText rows)) ≡ map Sound rows
+  run-accepted : reportOf (endOf (stepsOf q (freshOf q m n t ch) (map Sound rows))) ≡ acceptance m n t rows
+  run-accepted = fold-is-file q m n t ch (map Sound rows) (prime .two) ∙ rows-accepted
+
+  -- and, where a line can hold each element, what their lines read as
+  lines-read : q ≤ tenDigits → parseRows q (linesOf (rowsText rows)) ≡ map Sound rows
   unfolding rows filled
-  lines-read = filled-read p m n t inits ops ch field-prime (small .1) (f .size) (f .count) unrefused digits-enough
+  lines-read digits = filled-read q m n t inits ops ch prime (small .1) (f .size) (f .count) unrefused digits
 
-  file-accepted : fileReport p (headerText m n t ch ++ filledText rows) ≡ acceptance m n t rows
-  file-accepted = file-of-rows p m n t ch rows digits-enough values pass ∙ (ap (valuesReport p m n t ch) lines-read ∙ rows-accepted)
+  file-accepted : q ≤ tenDigits → fileReport q (headerText m n t ch ++ filledText rows) ≡ acceptance m n t rows
+  file-accepted digits = file-of-rows q m n t ch rows digits (f .fit) values pass ∙ (ap (valuesReport q m n t ch) (lines-read digits) ∙ rows-accepted)
 
-  run-accepted : reportOf (endOf (stepsOf p (freshOf p m n t ch) (map Sound rows))) ≡ acceptance m n t rows
-  run-accepted = fold-is-file p m n t ch (map Sound rows) (field-prime .two) ∙ rows-accepted
+-- Row by row.
+pub honest-run-accepted : HonestRunAccepted
+unfolding rows
+honest-run-accepted k m n t inits ops ch named f inside =
+    let prime = file-prime k named in
+    run-accepted (modulusOf k) (prime .0) (prime .1) m n t inits ops ch f inside
 
 -- As bytes, behind the header.
 pub honest-file-accepted : HonestFileAccepted
 unfolding rows
-honest-file-accepted m n t inits ops ch f inside = file-accepted m n t inits ops ch f inside
+honest-file-accepted k w m n t inits ops ch f inside =
+    let prime = file-prime k (w .named) in
+    file-accepted (modulusOf k) (prime .0) (prime .1) m n t inits ops ch f inside (w .digits)
 
--- And row by row.
-pub honest-run-accepted : HonestRunAccepted
-unfolding rows
-honest-run-accepted m n t inits ops ch f inside = run-accepted m n t inits ops ch f inside
+-- p is such a modulus
+pub written-p : Written M31
+unfolding p modulusOf fileModulus
+written-p = record { named = refl; digits = omega arith }
+
+pub honest-file-at-p : HonestFileAtP
+unfolding modulusOf
+honest-file-at-p = honest-file-accepted M31 written-p

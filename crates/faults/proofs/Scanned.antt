@@ -13,7 +13,6 @@ use mathlib.Core.List.{List}
 use lib.Dec.{eqb}
 use lib.ListN.{length, drop}
 use borrow.Author.Tests.{eq-eqb, ne-eqb}
-use Rattle.field.specs.Field.{p}
 use Rattle.memory.specs.declared.Memory.{Memory}
 use Rattle.memory.specs.declared.Memory.the-variants.{Ram, Rom, Set, Stack, Queue}
 use Rattle.memory.specs.declared.Op.{Op}
@@ -58,21 +57,21 @@ unfolding inputAt
 read-is rows k is = ap inputOf is
 
 -- the fault that the code finds of an operation by its form, or what is left to test
-module _ (m : Memory) (member : ℕ → Bool) (level : ℕ) (row : words.Input) {op : Op} {f : ℕ} (is : op ≡ opCoded (row .op)) (found : f ≡ inputFault p m (opsDue m Operating) (record { op = op; guard = row .guard; addr = row .addr; value = row .value })) where
+module _ (q : ℕ) (m : Memory) (member : ℕ → Bool) (level : ℕ) (row : words.Input) {op : Op} {f : ℕ} (is : op ≡ opCoded (row .op)) (found : f ≡ inputFault q m (opsDue m Operating) (record { op = op; guard = row .guard; addr = row .addr; value = row .value })) where
   possible : ℕ
   possible = refusal m member level (row .op) (row .guard) (row .addr) (row .value)
 
-  fault-either : faultAt p m member level (inputOf row) ≡ cond (eqb f 0) possible f
+  fault-either : faultAt q m member level (inputOf row) ≡ cond (eqb f 0) possible f
   unfolding possible
   fault-either =
-      let same = found ∙ ap (λ (x : Op). inputFault p m (opsDue m Operating) (record { op = x; guard = row .guard; addr = row .addr; value = row .value })) is in
-      fault-by-words p m member level (row .op) (row .guard) (row .addr) (row .value)
+      let same = found ∙ ap (λ (x : Op). inputFault q m (opsDue m Operating) (record { op = x; guard = row .guard; addr = row .addr; value = row .value })) is in
+      fault-by-words q m member level (row .op) (row .guard) (row .addr) (row .value)
       ∙ ap (λ (x : ℕ). cond (eqb x 0) (refusal m member level (row .op) (row .guard) (row .addr) (row .value)) x) (sym same)
 
-  pub fault-form : (f ≡ 0 → ⊥) → f ≡ faultAt p m member level (inputOf row)
+  pub fault-form : (f ≡ 0 → ⊥) → f ≡ faultAt q m member level (inputOf row)
   fault-form n = sym (fault-either ∙ ap (λ (b : Bool). cond b possible f) (ne-eqb f 0 n))
 
-  pub fault-possible : f ≡ 0 → refusal m member level (row .op) (row .guard) (row .addr) (row .value) ≡ faultAt p m member level (inputOf row)
+  pub fault-possible : f ≡ 0 → refusal m member level (row .op) (row .guard) (row .addr) (row .value) ≡ faultAt q m member level (inputOf row)
   unfolding possible
   fault-possible e = sym (fault-either ∙ ap (λ (b : Bool). cond b possible f) (eq-eqb f 0 e))
 

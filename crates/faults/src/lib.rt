@@ -1,5 +1,6 @@
 // The first fault of the input rows: "then each row 3, 5, 6, 11, 12, 13, place its number from 1". Nothing is written: of a ram and a rom the number of cells
 // matters, of a stack and a queue the depth, of a set its search tree. The number of cells, or the depth, is the level.
+use field::moduli::Modulus;
 use memory::Memory;
 use memory::Phase;
 use memory::numbers;
@@ -7,7 +8,7 @@ use rules::ops;
 use words::Input;
 ghost use mathlib.Core.Path.{_≡_};
 ghost use Prim.Native.Nat.{_^_, _<_};
-ghost use Rattle.field.specs.Field.{p};
+ghost use Rattle.field.specs.Moduli.{modulusOf};
 ghost use Rattle.runs.specs.Filler.{inputsIn};
 ghost use Rattle.index.specs.Values.{valuesIn};
 ghost use Rattle.faults.specs.Inputs.{inputOf};
@@ -19,12 +20,12 @@ pub struct Fault {
     pub place: usize,
 }
 
-const PUSH: u32 = 4;
+const PUSH: u64 = 4;
 
-const ENQUEUE: u32 = 6;
+const ENQUEUE: u64 = 6;
 
 // 11, where an address is not below the level.
-fn outside(addr: u32, level: usize) -> u32
+fn outside(addr: u64, level: usize) -> u32
     ensures { λ r. ⌜ r ≡ outside addr level ⌝ }
 {
     if (addr as usize) < level {
@@ -35,7 +36,7 @@ fn outside(addr: u32, level: usize) -> u32
 }
 
 // 12: an executed pop or dequeue at depth 0.
-fn emptied(up: bool, guard: u32, level: usize) -> u32
+fn emptied(up: bool, guard: u64, level: usize) -> u32
     ensures { λ r. ⌜ r ≡ emptied up guard level ⌝ }
 {
     if up {
@@ -48,7 +49,7 @@ fn emptied(up: bool, guard: u32, level: usize) -> u32
 }
 
 // 13, where the tree gives no place of a value.
-fn missing(inits: &[u32], links: &[u32], value: u32) -> u32
+fn missing(inits: &[u64], links: &[u64], value: u64) -> u32
     ensures { λ r. ⌜ r ≡ missing (inTree (valuesIn (now (inits .entry))) (now (links .entry))) value ⌝ }
 {
     if index::find(inits, links, value) < inits.len() / 4 {
@@ -59,7 +60,7 @@ fn missing(inits: &[u32], links: &[u32], value: u32) -> u32
 }
 
 // 11, 12 and 13, at a level.
-fn refusal(m: Memory, level: usize, row: Input, inits: &[u32], links: &[u32]) -> u32
+fn refusal(m: Memory, level: usize, row: Input, inits: &[u64], links: &[u64]) -> u32
     ensures { λ r. ⌜ r ≡ refusal m (inTree (valuesIn (now (inits .entry))) (now (links .entry))) level (row .op) (row .guard) (row .addr) (row .value) ⌝ }
 {
     match m {
@@ -71,7 +72,7 @@ fn refusal(m: Memory, level: usize, row: Input, inits: &[u32], links: &[u32]) ->
 }
 
 // The depth after an operation that goes up or down.
-fn moved(up: bool, guard: u32, level: usize) -> usize
+fn moved(up: bool, guard: u64, level: usize) -> usize
     requires { ⌜ level < 2 ^ 63 ⌝ }
     ensures { λ r. ⌜ r ≡ moved up guard level ⌝ }
 {
@@ -85,7 +86,7 @@ fn moved(up: bool, guard: u32, level: usize) -> usize
 }
 
 // The level after an operation.
-fn leveled(m: Memory, level: usize, op: u32, guard: u32) -> usize
+fn leveled(m: Memory, level: usize, op: u64, guard: u64) -> usize
     requires { ⌜ level < 2 ^ 63 ⌝ }
     ensures { λ r. ⌜ r ≡ leveled m level op guard ⌝ }
 {
@@ -97,11 +98,12 @@ fn leveled(m: Memory, level: usize, op: u32, guard: u32) -> usize
 }
 
 // The fault of an init row.
-fn init_fault(row: Input) -> u32
-    ensures { λ r. ⌜ r ≡ initFault p (inputOf row) ⌝ }
+fn init_fault(field: Modulus, row: Input) -> u32
+    ensures { λ r. ⌜ r ≡ initFault (modulusOf field) (inputOf row) ⌝ }
 {
     let op = ops::coded(row.op);
     inputs::fault(
+        field,
         Memory::Ram,
         Phase::Starting,
         op,
@@ -112,11 +114,26 @@ fn init_fault(row: Input) -> u32
 }
 
 // The fault of an operation at a level: 3, 5, 6, then 11, 12, 13.
-fn operation_fault(m: Memory, level: usize, row: Input, inits: &[u32], links: &[u32]) -> u32
-    ensures { λ r. ⌜ r ≡ faultAt p m (inTree (valuesIn (now (inits .entry))) (now (links .entry))) level (inputOf row) ⌝ }
+fn operation_fault(
+    field: Modulus,
+    m: Memory,
+    level: usize,
+    row: Input,
+    inits: &[u64],
+    links: &[u64],
+) -> u32
+    ensures { λ r. ⌜ r ≡ faultAt (modulusOf field) m (inTree (valuesIn (now (inits .entry))) (now (links .entry))) level (inputOf row) ⌝ }
 {
     let op = ops::coded(row.op);
-    let fault = inputs::fault(m, Phase::Operating, op, row.guard, row.addr, row.value);
+    let fault = inputs::fault(
+        field,
+        m,
+        Phase::Operating,
+        op,
+        row.guard,
+        row.addr,
+        row.value,
+    );
     if fault != 0 {
         return fault;
     }
@@ -124,13 +141,13 @@ fn operation_fault(m: Memory, level: usize, row: Input, inits: &[u32], links: &[
 }
 
 // The first fault of the init rows.
-fn scan_inits(inits: &[u32]) -> Fault
-    ensures { λ r. ⌜ placedOf r ≡ initsScanned p 1 (inputsIn (now (inits .entry))) ⌝ }
+fn scan_inits(field: Modulus, inits: &[u64]) -> Fault
+    ensures { λ r. ⌜ placedOf r ≡ initsScanned (modulusOf field) 1 (inputsIn (now (inits .entry))) ⌝ }
 {
     let n = inits.len() / 4;
     let mut k = 0;
     while k < n {
-        let number = init_fault(words::read(inits, k));
+        let number = init_fault(field, words::read(inits, k));
         if number != 0 {
             return Fault {
                 number,
@@ -146,8 +163,8 @@ fn scan_inits(inits: &[u32]) -> Fault
 }
 
 // The first fault of the operations.
-fn scan_operations(m: Memory, inits: &[u32], links: &[u32], ops: &[u32]) -> Fault
-    ensures { λ r. ⌜ placedOf r ≡ operationsScanned p m (now (inits .entry)) (now (links .entry)) (now (ops .entry)) ⌝ }
+fn scan_operations(field: Modulus, m: Memory, inits: &[u64], links: &[u64], ops: &[u64]) -> Fault
+    ensures { λ r. ⌜ placedOf r ≡ operationsScanned (modulusOf field) m (now (inits .entry)) (now (links .entry)) (now (ops .entry)) ⌝ }
 {
     let n = inits.len() / 4;
     let t = ops.len() / 4;
@@ -155,7 +172,7 @@ fn scan_operations(m: Memory, inits: &[u32], links: &[u32], ops: &[u32]) -> Faul
     let mut k = 0;
     while k < t {
         let row = words::read(ops, k);
-        let number = operation_fault(m, level, row, inits, links);
+        let number = operation_fault(field, m, level, row, inits, links);
         if number != 0 {
             return Fault {
                 number,
@@ -172,12 +189,12 @@ fn scan_operations(m: Memory, inits: &[u32], links: &[u32], ops: &[u32]) -> Faul
 }
 
 // The first fault of all rows, of 4 words each; the links are the words in which a set's elements are looked up.
-pub fn first(m: Memory, inits: &[u32], links: &[u32], ops: &[u32]) -> Fault
-    ensures { λ r. ⌜ placedOf r ≡ firstOf p m (now (inits .entry)) (now (links .entry)) (now (ops .entry)) ⌝ }
+pub fn first(field: Modulus, m: Memory, inits: &[u64], links: &[u64], ops: &[u64]) -> Fault
+    ensures { λ r. ⌜ placedOf r ≡ firstOf (modulusOf field) m (now (inits .entry)) (now (links .entry)) (now (ops .entry)) ⌝ }
 {
-    let found = scan_inits(inits);
+    let found = scan_inits(field, inits);
     if found.number != 0 {
         return found;
     }
-    scan_operations(m, inits, links, ops)
+    scan_operations(field, m, inits, links, ops)
 }

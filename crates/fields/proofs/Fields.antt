@@ -13,7 +13,6 @@ use lib.Dec.{eqb, leb, ltb, leb·zero, leb·suc-suc, leb·suc-zero, eqb·suc-suc
 use lib.ListN.{length, getD, set, take, drop, length-set, length-drop}
 use lib.Seq.{take-all, drop-cons, drop-drop, drop-length, take-suc-set}
 use borrow.Author.Tests.{eq-eqb, ne-eqb, le-leb, lt-leb}
-use Rattle.field.specs.Field.{p}
 use Rattle.memory.specs.Bytes.{longest, fitting, comma, onto, fields, digit, digits, decimalFrom, numeral, numerals, numbers, allBelow, readable}
 use Rattle.keys.specs.declared.Name.{Name}
 use Rattle.decimal.specs.declared.Number.{Number}
@@ -274,22 +273,22 @@ prepends-some [] ws = refl
 prepends-some (v ∷ vs) ws = rw (prepends-some vs ws)
 
 -- the numbers that are read after the name, with its key
-unfoldable takenWith : ℕ → Option (List ℕ) → Taken
-takenWith key none = unread
-takenWith key (some ns) = taken key ns (allBelow p ns)
+unfoldable takenWith : ℕ → ℕ → Option (List ℕ) → Taken
+takenWith p key none = unread
+takenWith p key (some ns) = taken key ns (allBelow p ns)
 
-taken-cond : (test : Bool) (key : ℕ) (ns : List ℕ) → cond test (taken key ns (allBelow p ns)) unread ≡ takenWith key (cond test (some ns) none)
+taken-cond : (p : ℕ) (test : Bool) (key : ℕ) (ns : List ℕ) → cond test (taken key ns (allBelow p ns)) unread ≡ takenWith p key (cond test (some ns) none)
 unfolding takenWith
-taken-cond true key ns = refl
-taken-cond false key ns = refl
+taken-cond p true key ns = refl
+taken-cond p false key ns = refl
 
 -- are what the line is taken apart to, if it fits
 line-is :
-    (total : ℕ) (text : List ℕ) (ended : Bool) (read : Option (List ℕ))
+    (p total : ℕ) (text : List ℕ) (ended : Bool) (read : Option (List ℕ))
     → length text ≤ 80 → ended ≡ true → readFrom total text (length (first text)) ≡ read
-    → takenWith (keyOf (first text)) read ≡ fieldsTaken p total (record { text = text; ended = ended })
+    → takenWith p (keyOf (first text)) read ≡ fieldsTaken p total (record { text = text; ended = ended })
 unfolding fieldsTaken readable fitting longest numbersOf
-line-is total text ended read fits is reads =
+line-is p total text ended read fits is reads =
     rw (
       sym reads,
       read-fields total text (length (first text)) (first-within text),
@@ -299,13 +298,14 @@ line-is total text ended read fits is reads =
       fields-first text,
     )
     (sym
-    (taken-cond
+    (taken-cond p
     (eqb (suc (length (drop 1 (fields text)))) (suc total) && numerals (drop 1 (fields text)))
     (keyOf (first text))
     (numbers (drop 1 (fields text)))))
 
--- A line that fits is being read: of `total` numbers the first i stand in ns, it is known whether one of them is p or more, and the others are read from a position on
-pub record Reading (total : ℕ) (text : List ℕ) (ended : Bool) (ns : List ℕ) (i at : ℕ) (below : Bool) : Type 0 where
+-- A line that fits is being read: of `total` numbers the first i stand in ns, it is known whether
+-- one of them is the modulus or more, and the others are read from a position on
+pub record Reading (p total : ℕ) (text : List ℕ) (ended : Bool) (ns : List ℕ) (i at : ℕ) (below : Bool) : Type 0 where
   pub fits : length text ≤ 80
   pub whole : ended ≡ true
   pub many : length ns ≡ total
@@ -314,10 +314,10 @@ pub record Reading (total : ℕ) (text : List ℕ) (ended : Bool) (ns : List ℕ
   pub small : below ≡ allBelow p (take i ns)
 
 pub reading-begins :
-    {text : List ℕ} {ended : Bool} {name : Name} (ns : List ℕ)
-    → length text ≤ 80 → ended ≡ true → name ≡ nameOf (first text) → Reading (length ns) text ended ns 0 (name .next) true
+    {text : List ℕ} {ended : Bool} {name : Name} (p : ℕ) (ns : List ℕ)
+    → length text ≤ 80 → ended ≡ true → name ≡ nameOf (first text) → Reading p (length ns) text ended ns 0 (name .next) true
 unfolding prepends nameOf allBelow
-reading-begins {text} ns fits whole is =
+reading-begins {text} p ns fits whole is =
     record {
       fits = fits;
       whole = whole;
@@ -327,13 +327,13 @@ reading-begins {text} ns fits whole is =
       small = refl;
     }
 
-module _ {total : ℕ} {text : List ℕ} {ended : Bool} {ns : List ℕ} {i at : ℕ} {below : Bool} (reading : Reading total text ended ns i at below) where
+module _ {p total : ℕ} {text : List ℕ} {ended : Bool} {ns : List ℕ} {i at : ℕ} {below : Bool} (reading : Reading p total text ended ns i at below) where
   -- one of the numbers that are left is read
   reading-next : i < total → readFrom total text (length (first text)) ≡ prepends (take i ns) (readFrom (suc (total - (i + 1))) text at)
   reading-next left = reading .reads ∙ ap (λ (k : ℕ). prepends (take i ns) (readFrom k text at)) (omega arith)
 
   module _ (left : i < total) {found : Number} (is : found ≡ numberFrom at (drop at text)) where
-    pub reading-goes : {v next : ℕ} → found ≡ Read v next → Reading total text ended (set ns i v) (i + 1) next (below && ltb v p)
+    pub reading-goes : {v next : ℕ} → found ≡ Read v next → Reading p total text ended (set ns i v) (i + 1) next (below && ltb v p)
     unfolding readFrom readOn
     reading-goes {v} {next} goes =
         record {
@@ -346,14 +346,14 @@ module _ {total : ℕ} {text : List ℕ} {ended : Bool} {ns : List ℕ} {i at : 
               ∙ ap (λ (n : Number). prepends (take i ns) (readOn n (λ m. readFrom (total - (i + 1)) text m))) (sym is ∙ goes)
               ∙ prepends-more (take i ns) v (readFrom (total - (i + 1)) text next)
               ∙ rw (add-one i, take-suc-set ns i v (omega arith));
-          small = rw (add-one i, take-suc-set ns i v (omega arith)) (ap (λ (t : Bool). t && ltb v p) (reading .small) ∙ sym (below-append (take i ns) v));
+          small = rw (add-one i, take-suc-set ns i v (omega arith)) (ap (λ (t : Bool). t && ltb v p) (reading .small) ∙ sym (below-append p (take i ns) v));
         }
 
     -- or is none
     pub reading-fails : found ≡ Unread → unread ≡ fieldsTaken p total (record { text = text; ended = ended })
     unfolding readFrom readOn takenWith
     reading-fails fails =
-        line-is total text ended none (reading .fits) (reading .whole)
+        line-is p total text ended none (reading .fits) (reading .whole)
         (reading-next left
         ∙ ap (λ (n : Number). prepends (take i ns) (readOn n (λ m. readFrom (total - (i + 1)) text m))) (sym is ∙ fails)
         ∙ prepends-none (take i ns))
@@ -375,17 +375,17 @@ module _ {total : ℕ} {text : List ℕ} {ended : Bool} {ns : List ℕ} {i at : 
   reading-ends over named ends =
       ap (λ (n : Name). taken (n .key) ns below) named
       ∙ ap (taken (nameOf (first text) .key) ns) (reading-small over)
-      ∙ line-is total text ended (some ns) (reading .fits) (reading .whole)
+      ∙ line-is p total text ended (some ns) (reading .fits) (reading .whole)
       (reading-last over ∙ rw (eq-eqb at (length text) ends) (prepends-some ns [] ∙ ap some (append-nil ns)))
 
   pub reading-over : total ≤ i → (at ≡ length text → ⊥) → unread ≡ fieldsTaken p total (record { text = text; ended = ended })
   unfolding readFrom takenWith
   reading-over over more =
-      line-is total text ended none (reading .fits) (reading .whole)
+      line-is p total text ended none (reading .fits) (reading .whole)
       (reading-last over ∙ rw (ne-eqb at (length text) more) (prepends-none ns))
 
 -- a line that does not fit is taken apart to none
-module _ (total : ℕ) (text : List ℕ) (ended : Bool) where
+module _ (p total : ℕ) (text : List ℕ) (ended : Bool) where
   pub line-long : 80 < length text → unread ≡ fieldsTaken p total (record { text = text; ended = ended })
   unfolding fieldsTaken readable fitting longest
   line-long long = rw (lt-leb (length text) 80 long)

@@ -5,7 +5,6 @@ use mathlib.Core.Path.{_≡_, refl, ap, _∙_}
 use mathlib.Core.Bool.{Bool, true, false, cond}
 use mathlib.Core.List.{List, []}
 use lib.ListN.{getD, drop}
-use Rattle.field.specs.Field.{p}
 use Rattle.memory.specs.Bytes.{Line, Fields, fields, numbers, allBelow, named, noFields, readable, fieldsOf}
 use Rattle.keys.specs.Keys.{keyOf}
 use Rattle.fields.specs.declared.Found.{Found}
@@ -21,7 +20,7 @@ unfoldable pub byKey : Fields → Keyed
 byKey (named name ns) = keyed (keyOf name) ns
 byKey (noFields f) = faulty f
 
--- 2, and 3 where a number is p or more
+-- 2, and 3 where a number is the modulus or more
 unfoldable onTaken : Taken → Keyed
 onTaken unread = faulty 2
 onTaken (taken key ns below) = cond below (keyed key ns) (faulty 3)
@@ -34,42 +33,42 @@ fields-taken false below name ns = refl
 fields-taken true true name ns = refl
 fields-taken true false name ns = refl
 
-taken-is-fields : (k : ℕ) (line : Line) → onTaken (fieldsTaken p k line) ≡ byKey (fieldsOf p (suc k) line)
+taken-is-fields : (p k : ℕ) (line : Line) → onTaken (fieldsTaken p k line) ≡ byKey (fieldsOf p (suc k) line)
 unfolding fieldsTaken fieldsOf
-taken-is-fields k line =
+taken-is-fields p k line =
     let fs = fields (line .text) in
     let ns = numbers (drop 1 fs) in
     fields-taken (readable (suc k) line) (allBelow p ns) (getD fs 0 []) ns
 
--- no number of a line that has a key is p or more
-unfoldable belowIn : Keyed → Bool
-belowIn (keyed key ns) = allBelow p ns
-belowIn (faulty f) = true
+-- no number of a line that has a key is the modulus or more
+unfoldable belowIn : ℕ → Keyed → Bool
+belowIn p (keyed key ns) = allBelow p ns
+belowIn p (faulty f) = true
 
 fields-below :
-    (readable below : Bool) (name ns : List ℕ) → allBelow p ns ≡ below → belowIn (byKey (cond readable (cond below (named name ns) (noFields 3)) (noFields 2))) ≡ true
+    (p : ℕ) (readable below : Bool) (name ns : List ℕ) → allBelow p ns ≡ below → belowIn p (byKey (cond readable (cond below (named name ns) (noFields 3)) (noFields 2))) ≡ true
 unfolding belowIn byKey
-fields-below false below name ns is = refl
-fields-below true true name ns is = is
-fields-below true false name ns is = refl
+fields-below p false below name ns is = refl
+fields-below p true true name ns is = is
+fields-below p true false name ns is = refl
 
-pub keyed-below : (k : ℕ) (line : Line) {key : ℕ} {ns : List ℕ} → keyed key ns ≡ byKey (fieldsOf p k line) → allBelow p ns ≡ true
+pub keyed-below : (p k : ℕ) (line : Line) {key : ℕ} {ns : List ℕ} → keyed key ns ≡ byKey (fieldsOf p k line) → allBelow p ns ≡ true
 unfolding belowIn fieldsOf
-keyed-below k line is =
+keyed-below p k line is =
     let fs = fields (line .text) in
     let ns = numbers (drop 1 fs) in
-    ap belowIn is ∙ fields-below (readable k line) (allBelow p ns) (getD fs 0 []) ns refl
+    ap (belowIn p) is ∙ fields-below p (readable k line) (allBelow p ns) (getD fs 0 []) ns refl
 
 -- what an answer says, by its variant and its test
-module _ (ns : List ℕ) (k : ℕ) (line : Line) {found : Found} (says : takenOf ns found ≡ fieldsTaken p k line) where
+module _ (p : ℕ) (ns : List ℕ) (k : ℕ) (line : Line) {found : Found} (says : takenOf ns found ≡ fieldsTaken p k line) where
   pub says-unread : found ≡ Unread → faulty 2 ≡ byKey (fieldsOf p (suc k) line)
   unfolding takenOf onTaken
-  says-unread e = ap onTaken (rw e at says) ∙ taken-is-fields k line
+  says-unread e = ap onTaken (rw e at says) ∙ taken-is-fields p k line
 
   pub says-large : {key : ℕ} {below : Bool} → found ≡ Read key below → below ≡ false → faulty 3 ≡ byKey (fieldsOf p (suc k) line)
   unfolding takenOf onTaken
-  says-large e f = ap onTaken (rw (e, f) at says) ∙ taken-is-fields k line
+  says-large e f = ap onTaken (rw (e, f) at says) ∙ taken-is-fields p k line
 
   pub says-key : {key : ℕ} {below : Bool} → found ≡ Read key below → below ≡ true → keyed key ns ≡ byKey (fieldsOf p (suc k) line)
   unfolding takenOf onTaken
-  says-key e f = ap onTaken (rw (e, f) at says) ∙ taken-is-fields k line
+  says-key e f = ap onTaken (rw (e, f) at says) ∙ taken-is-fields p k line

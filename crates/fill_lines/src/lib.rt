@@ -1,16 +1,15 @@
 // The lines of the filling program's input: its two names lines, its value line of three fields and its row line of four. Section "The filler" of document 01.
 // Each takes the bytes of a line before its line feed, and whether the line feed is there. Every slice is read, whatever it holds.
 ghost use mathlib.Core.Path.{_≡_};
-ghost use mathlib.Core.Bool.{true};
 ghost use lib.ListN.{getD};
-ghost use Rattle.field.specs.Field.{p};
-ghost use Rattle.memory.specs.Bytes.{allBelow};
+ghost use Rattle.field.specs.Moduli.{modulusOf};
 ghost use Rattle.memory.specs.Names.{fillNames, inputNames};
 ghost use Rattle.memory.specs.File.{namesFault};
 ghost use Rattle.runs.specs.FillFile.{fillAllowed, jobOf, parseJob, parseInput};
 ghost use Rattle.keys.specs.Keys.{knownOf};
 ghost use Rattle.lines.specs.Answers.{namedOf};
 ghost use Rattle.fill_lines.specs.Answers.{taskOf, givenOf, inputWith};
+use field::moduli::Modulus;
 use fields::Found;
 use keys::Known;
 use lines::Named;
@@ -22,7 +21,7 @@ use memory::numbers;
 use rules::sizes;
 
 // "The filling program takes size and count up to 128"
-pub const LIMIT: u32 = 128;
+pub const LIMIT: u64 = 128;
 
 // What the value line reads as: its values, or its fault 2, 3 or 4.
 pub enum Task {
@@ -38,15 +37,15 @@ pub enum Task {
 pub enum Given {
     Row {
         op: Op,
-        guard: u32,
-        addr: u32,
-        value: u32,
+        guard: u64,
+        addr: u64,
+        value: u64,
     },
     Fault(u32),
 }
 
 // Not 4: "size or count not allowed".
-fn allowed(memory: Memory, size: u32, count: u32) -> bool
+fn allowed(memory: Memory, size: u64, count: u64) -> bool
     ensures { λ r. ⌜ r ≡ fillAllowed memory size count ⌝ }
 {
     sizes::allowed(memory, size, count) & ((size <= LIMIT) & (count <= LIMIT))
@@ -54,7 +53,6 @@ fn allowed(memory: Memory, size: u32, count: u32) -> bool
 
 // The values of the value line, or 4, from what its name is that of, and two numbers.
 fn task_of(known: Known, values: &[u64]) -> Task
-    requires { ⌜ allBelow p (now values) ≡ true ⌝ }
     ensures { λ r. ⌜ taskOf r ≡ jobOf (knownOf known) (getD (now (values .entry)) 0 0) (getD (now (values .entry)) 1 0) ⌝ }
 {
     let Known::Is(memory) = known else {
@@ -67,17 +65,17 @@ fn task_of(known: Known, values: &[u64]) -> Task
     }
     Task::Fill {
         memory,
-        size,
-        count,
+        size: size as u32,
+        count: count as u32,
     }
 }
 
 // What the value line reads as.
-pub fn job_line(text: &[u8], ended: bool) -> Task
-    ensures { λ r. ⌜ taskOf r ≡ parseJob p (record { text = now (text .entry); ended = ended }) ⌝ }
+pub fn job_line(k: Modulus, text: &[u8], ended: bool) -> Task
+    ensures { λ r. ⌜ taskOf r ≡ parseJob (modulusOf k) (record { text = now (text .entry); ended = ended }) ⌝ }
 {
     let mut values = [0u64; 2];
-    let Found::Read { key, below } = fields::read(text, ended, &mut values) else {
+    let Found::Read { key, below } = fields::read(k, text, ended, &mut values) else {
         return Task::Fault(numbers::UNREADABLE);
     };
     if !below {
@@ -88,7 +86,6 @@ pub fn job_line(text: &[u8], ended: bool) -> Task
 
 // The row of an op and three numbers.
 fn given_row(op: Op, columns: &[u64]) -> Given
-    requires { ⌜ allBelow p (now columns) ≡ true ⌝ }
     ensures { λ r. ⌜ givenOf r ≡ inputWith op (now (columns .entry)) ⌝ }
 {
     Given::Row {
@@ -100,11 +97,11 @@ fn given_row(op: Op, columns: &[u64]) -> Given
 }
 
 // What a row line reads as.
-pub fn input_line(text: &[u8], ended: bool) -> Given
-    ensures { λ r. ⌜ givenOf r ≡ parseInput p (record { text = now (text .entry); ended = ended }) ⌝ }
+pub fn input_line(k: Modulus, text: &[u8], ended: bool) -> Given
+    ensures { λ r. ⌜ givenOf r ≡ parseInput (modulusOf k) (record { text = now (text .entry); ended = ended }) ⌝ }
 {
     let mut columns = [0u64; 3];
-    let Found::Read { key, below } = fields::read(text, ended, &mut columns) else {
+    let Found::Read { key, below } = fields::read(k, text, ended, &mut columns) else {
         return Given::Fault(numbers::UNREADABLE);
     };
     if !below {

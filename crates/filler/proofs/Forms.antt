@@ -9,7 +9,6 @@ use mathlib.Core.Path.{_≡_, refl, sym, _∙_}
 use mathlib.Core.List.{List, [], _∷_}
 use lib.Dec.{eqb}
 use borrow.Author.Tests.{eqb-true, leb-true}
-use Rattle.field.specs.Field.{p}
 use Rattle.memory.specs.declared.Memory.{Memory}
 use Rattle.memory.specs.declared.Memory.the-variants.{Ram, Rom, Set, Stack, Queue}
 use Rattle.memory.specs.declared.Op.{Op}
@@ -52,15 +51,16 @@ and-first false b e = e
 
 -- an operation without fault has an op that is due, and a guard of 0 or 1
 module _ (o g a v : ℕ) where
-  abbrev pub Formed : Memory → Type 0
-  Formed m = inputFault p m (opsDue m Operating) (input o g a v) ≡ 0
+  pub record Formed (m : Memory) : Type 0 where
+    pub modulus : ℕ
+    pub none : inputFault modulus m (opsDue m Operating) (input o g a v) ≡ 0
 
   due : (m : Memory) → Formed m → opIn (opCoded o) (opsDue m Operating) ≡ true
-  due m e = form-sound p m (opsDue m Operating) (input o g a v) e .0
+  due m e = form-sound (e .modulus) m (opsDue m Operating) (input o g a v) (e .none) .0
 
   pub form-guard : (m : Memory) → Formed m → g ≤ 1
   unfolding formed bare filledRow
-  form-guard m e = leb-true g 1 (and-first _ _ (and-first _ _ (form-sound p m (opsDue m Operating) (input o g a v) e .1)))
+  form-guard m e = leb-true g 1 (and-first _ _ (and-first _ _ (form-sound (e .modulus) m (opsDue m Operating) (input o g a v) (e .none) .1)))
 
   pub form-ram : Formed Ram → o ≡ 1
   unfolding opsDue opIn isOp opCode
@@ -82,6 +82,6 @@ module _ (o g a v : ℕ) where
   unfolding opsDue opIn isOp opCode
   form-queue e = two-ops o 6 7 (omega arith) (omega arith) (due Queue e)
 
-  pub form-init : initFault p (input o g a v) ≡ 0 → o ≡ 0
+  pub form-init : (q : ℕ) → initFault q (input o g a v) ≡ 0 → o ≡ 0
   unfolding initFault opsDue opIn isOp opCode
-  form-init e = one-op o 0 (omega arith) (form-sound p Ram (opsDue Ram Starting) (input o g a v) e .0)
+  form-init q e = one-op o 0 (omega arith) (form-sound q Ram (opsDue Ram Starting) (input o g a v) e .0)

@@ -12,7 +12,6 @@ use lib.Dec.{eqb}
 use lib.ListN.{length, drop}
 use lib.Seq.{sets}
 use borrow.Author.Tests.{eqb-true, eqb-false}
-use Rattle.field.specs.Field.{p}
 use Rattle.runs.specs.Honest.{Input, bare}
 use Rattle.runs.specs.Filler.{inputsIn, Placed, placed}
 use Rattle.words.specs.Inputs.{valueAt, opAt, guardAt, addrAt}
@@ -27,8 +26,9 @@ use Rattle.faults.proofs.Scanned.{inits-turn}
 use Rattle.filler.proofs.Onward.{copied-words}
 
 pub record CleanInits (is : List Input) : Type 0 where
+  pub modulus : ℕ
   pub place : ℕ
-  pub none : initsScanned p place is .number ≡ 0
+  pub none : initsScanned modulus place is .number ≡ 0
 
 pub record CleanInit (inits : List ℕ) (k : ℕ) : Type 0 where
   pub here : opAt inits k ≡ 0
@@ -37,13 +37,13 @@ pub record CleanInit (inits : List ℕ) (k : ℕ) : Type 0 where
 pub clean-init : (inits : List ℕ) (k : ℕ) → 4 * k + 4 ≤ length inits → CleanInits (drop k (inputsIn inits)) → CleanInit inits k
 unfolding inputAt placed
 clean-init inits k h c =
-    go (eqb (initFault p (inputAt inits k)) 0) refl (ap (λ (f : Placed). f .number) (sym (inits-turn p (c .place) inits k h)) ∙ c .none)
+    go (eqb (initFault (c .modulus) (inputAt inits k)) 0) refl (ap (λ (f : Placed). f .number) (sym (inits-turn (c .modulus) (c .place) inits k h)) ∙ c .none)
   where
-    go : (b : Bool) → eqb (initFault p (inputAt inits k)) 0 ≡ b
-        → cond b (initsScanned p (suc (c .place)) (drop (suc k) (inputsIn inits))) (placed (initFault p (inputAt inits k)) (c .place)) .number ≡ 0 → CleanInit inits k
+    go : (b : Bool) → eqb (initFault (c .modulus) (inputAt inits k)) 0 ≡ b
+        → cond b (initsScanned (c .modulus) (suc (c .place)) (drop (suc k) (inputsIn inits))) (placed (initFault (c .modulus) (inputAt inits k)) (c .place)) .number ≡ 0 → CleanInit inits k
     go true e d = record {
-      here = form-init (opAt inits k) (guardAt inits k) (addrAt inits k) (valueAt inits k) (eqb-true _ 0 e);
-      later = record { place = suc (c .place); none = ap (λ (j : ℕ). initsScanned p (suc (c .place)) (drop j (inputsIn inits)) .number) (add-one k) ∙ d };
+      here = form-init (opAt inits k) (guardAt inits k) (addrAt inits k) (valueAt inits k) (c .modulus) (eqb-true _ 0 e);
+      later = record { modulus = c .modulus; place = suc (c .place); none = ap (λ (j : ℕ). initsScanned (c .modulus) (suc (c .place)) (drop j (inputsIn inits)) .number) (add-one k) ∙ d };
     }
     go false e d = absurd (eqb-false _ 0 e d)
 

@@ -14,7 +14,6 @@ use lib.Dec.{eqb, ltb}
 use lib.ListN.{length, drop}
 use lib.Seq.{sets, length-sets}
 use borrow.Author.Tests.{eqb-true, eqb-false, ltb-true, eq-eqb, ne-eqb}
-use Rattle.field.specs.Field.{p}
 use Rattle.memory.specs.declared.Memory.{Memory}
 use Rattle.memory.specs.declared.Memory.the-variants.{Ram, Rom, Set, Stack, Queue}
 use Rattle.memory.specs.declared.Row.{Row}
@@ -77,22 +76,23 @@ onward-next {all} {k} {out₀} {out} w t ops given more from later row ws o e wo
 
 -- no operation has a fault, from a level on
 pub record Clean (m : Memory) (values : List ℕ) (level : ℕ) (is : List Input) : Type 0 where
+  pub modulus : ℕ
   pub place : ℕ
-  pub none : scanned p m (inSet values) level place is .number ≡ 0
+  pub none : scanned modulus m (inSet values) level place is .number ≡ 0
 
 -- a row without fault, by its words
 pub record Sound (m : Memory) (values : List ℕ) (level o g a v : ℕ) : Type 0 where
   pub formed : Formed o g a v m
   pub possible : refusal m (inSet values) level o g a v ≡ 0
 
-sound-of : (m : Memory) (values : List ℕ) (level o g a v : ℕ) → faultAt p m (inSet values) level (input o g a v) ≡ 0 → Sound m values level o g a v
-sound-of m values level o g a v e = go (inputFault p m (opsDue m Operating) (input o g a v)) refl (sym (fault-by-words p m (inSet values) level o g a v) ∙ e)
+sound-of : (q : ℕ) (m : Memory) (values : List ℕ) (level o g a v : ℕ) → faultAt q m (inSet values) level (input o g a v) ≡ 0 → Sound m values level o g a v
+sound-of q m values level o g a v e = go (inputFault q m (opsDue m Operating) (input o g a v)) refl (sym (fault-by-words q m (inSet values) level o g a v) ∙ e)
   where
-    at : (b : Bool) (f : ℕ) → inputFault p m (opsDue m Operating) (input o g a v) ≡ f → eqb f 0 ≡ b → cond b (refusal m (inSet values) level o g a v) f ≡ 0 → Sound m values level o g a v
-    at true f h t d = record { formed = h ∙ eqb-true f 0 t; possible = d }
+    at : (b : Bool) (f : ℕ) → inputFault q m (opsDue m Operating) (input o g a v) ≡ f → eqb f 0 ≡ b → cond b (refusal m (inSet values) level o g a v) f ≡ 0 → Sound m values level o g a v
+    at true f h t d = record { formed = record { modulus = q; none = h ∙ eqb-true f 0 t }; possible = d }
     at false f h t d = absurd (eqb-false f 0 t d)
 
-    go : (f : ℕ) → inputFault p m (opsDue m Operating) (input o g a v) ≡ f → cond (eqb f 0) (refusal m (inSet values) level o g a v) f ≡ 0 → Sound m values level o g a v
+    go : (f : ℕ) → inputFault q m (opsDue m Operating) (input o g a v) ≡ f → cond (eqb f 0) (refusal m (inSet values) level o g a v) f ≡ 0 → Sound m values level o g a v
     go f h d = at (eqb f 0) f h refl d
 
 pub record CleanTurn (m : Memory) (values : List ℕ) (level : ℕ) (ops : List ℕ) (k : ℕ) : Type 0 where
@@ -103,18 +103,19 @@ pub clean-turn : (m : Memory) (values : List ℕ) (level : ℕ) (ops : List ℕ)
     → Clean m values level (drop k (inputsIn ops)) → CleanTurn m values level ops k
 unfolding inputAt placed
 clean-turn m values level ops k h c =
-    let f : ℕ = faultAt p m (inSet values) level (inputAt ops k) in
-    go (eqb f 0) refl (ap (λ (x : Placed). x .number) (sym (scan-turn p m (inSet values) level (c .place) ops k h)) ∙ c .none)
+    let f : ℕ = faultAt (c .modulus) m (inSet values) level (inputAt ops k) in
+    go (eqb f 0) refl (ap (λ (x : Placed). x .number) (sym (scan-turn (c .modulus) m (inSet values) level (c .place) ops k h)) ∙ c .none)
   where
     rest : Placed
-    rest = scanned p m (inSet values) (leveled m level (opAt ops k) (guardAt ops k)) (suc (c .place)) (drop (suc k) (inputsIn ops))
+    rest = scanned (c .modulus) m (inSet values) (leveled m level (opAt ops k) (guardAt ops k)) (suc (c .place)) (drop (suc k) (inputsIn ops))
 
-    go : (b : Bool) → eqb (faultAt p m (inSet values) level (inputAt ops k)) 0 ≡ b → cond b rest (placed (faultAt p m (inSet values) level (inputAt ops k)) (c .place)) .number ≡ 0 → CleanTurn m values level ops k
+    go : (b : Bool) → eqb (faultAt (c .modulus) m (inSet values) level (inputAt ops k)) 0 ≡ b → cond b rest (placed (faultAt (c .modulus) m (inSet values) level (inputAt ops k)) (c .place)) .number ≡ 0 → CleanTurn m values level ops k
     go true t d = record {
-      here = sound-of m values level (opAt ops k) (guardAt ops k) (addrAt ops k) (valueAt ops k) (eqb-true _ 0 t);
+      here = sound-of (c .modulus) m values level (opAt ops k) (guardAt ops k) (addrAt ops k) (valueAt ops k) (eqb-true _ 0 t);
       later = record {
+        modulus = c .modulus;
         place = suc (c .place);
-        none = ap (λ (j : ℕ). scanned p m (inSet values) (leveled m level (opAt ops k) (guardAt ops k)) (suc (c .place)) (drop j (inputsIn ops)) .number) (add-one k) ∙ d;
+        none = ap (λ (j : ℕ). scanned (c .modulus) m (inSet values) (leveled m level (opAt ops k) (guardAt ops k)) (suc (c .place)) (drop j (inputsIn ops)) .number) (add-one k) ∙ d;
       };
     }
     go false t d = absurd (eqb-false _ 0 t d)

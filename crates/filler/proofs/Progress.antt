@@ -69,7 +69,7 @@ empty n m values ops e c = subst (λ (l : ℕ). Clean m values l (inputsIn ops))
 pub progress-start : (m : Memory) (n t : ℕ) (inits ops out s : List ℕ) → Fillable m n t inits ops out s → Prepared m n inits s
     → Progress m (widthOf m n t) t inits ops out 0 (record { clock = 1; head = 0; tail = 0 }) out s
 unfolding widthOf sized room
-progress-start m n t inits ops out s f prepared = go m (record { place = n + 1; none = f .clean }) prepared (f .allowed)
+progress-start m n t inits ops out s f prepared = go m (record { modulus = f .modulus; place = n + 1; none = f .clean }) prepared (f .allowed)
   where
     words : 2 * n + 3 * t ≤ length s
     words = f .scratch-room

@@ -17,7 +17,6 @@ use lib.Dec.{eqb, leb}
 use lib.ListN.{length, getD, take, drop, replicate, length-drop}
 use lib.Seq.{length-take-le}
 use borrow.Author.Tests.{eq-eqb, ne-eqb, leb-true, eqb-true}
-use Rattle.field.specs.Field.{p}
 use Rattle.memory.specs.declared.Memory.{Memory}
 use Rattle.memory.specs.declared.Memory.the-variants.{Ram, Rom, Set, Stack, Queue}
 use Rattle.memory.specs.Rows.{limit, sized, allowed}
@@ -75,27 +74,27 @@ refused-fills : (number place : ℕ) (out s : List ℕ) → (number ≡ 0 → �
 unfolding filledOf
 refused-fills number place out s fault = (rw (ne-eqb number 0 fault) refl, (refl, refl))
 
-pub refused-is : (m : Memory) (t : ℕ) (inits ops : List Input) (out s out′ s′ : List ℕ) (f : Fault)
-    → placedOf f ≡ rowsFault p m (map (λ i. i .value) inits) 1 inits ops → (f .number ≡ 0 → ⊥)
+pub refused-is : (q : ℕ) (m : Memory) (t : ℕ) (inits ops : List Input) (out s out′ s′ : List ℕ) (f : Fault)
+    → placedOf f ≡ rowsFault q m (map (λ i. i .value) inits) 1 inits ops → (f .number ≡ 0 → ⊥)
     → out′ ≡ replicate (length out) 0 → s′ ≡ replicate (length s) 0
-    → Fills (fillRows p m t inits ops out s) (Refused (f .number) (f .place)) out′ s′
+    → Fills (fillRows q m t inits ops out s) (Refused (f .number) (f .place)) out′ s′
 unfolding fillRows rowRefused
-refused-is m t inits ops out s out′ s′ f is fault o b =
+refused-is q m t inits ops out s out′ s′ f is fault o b =
     fills-same (refused-fills (f .number) (f .place) out′ s′ fault)
     ((λ i. record { answer = is i .number; place = is i .place; count = 0; output = o i; scratch = b i })
-    ∙ sym (ap (λ (c : Bool). cond c (filledWith (filledRows m t inits ops) out s) (rowRefused (rowsFault p m (map (λ i. i .value) inits) 1 inits ops) out s)) (ne-eqb (rowsFault p m (map (λ i. i .value) inits) 1 inits ops .number) 0 (λ e. fault (ap (λ (x : Placed). x .number) is ∙ e)))))
+    ∙ sym (ap (λ (c : Bool). cond c (filledWith (filledRows m t inits ops) out s) (rowRefused (rowsFault q m (map (λ i. i .value) inits) 1 inits ops) out s)) (ne-eqb (rowsFault q m (map (λ i. i .value) inits) 1 inits ops .number) 0 (λ e. fault (ap (λ (x : Placed). x .number) is ∙ e)))))
 
-pub filled-is : (m : Memory) (t : ℕ) (inits ops : List Input) (out s out′ s′ : List ℕ) (count : ℕ)
-    → rowsFault p m (map (λ i. i .value) inits) 1 inits ops .number ≡ 0
+pub filled-is : (q : ℕ) (m : Memory) (t : ℕ) (inits ops : List Input) (out s out′ s′ : List ℕ) (count : ℕ)
+    → rowsFault q m (map (λ i. i .value) inits) 1 inits ops .number ≡ 0
     → out′ ≡ laid out 0 (filledRows m t inits ops) → s′ ≡ replicate (length s) 0 → count ≡ length (filledRows m t inits ops)
-    → Fills (fillRows p m t inits ops out s) (Rows count) out′ s′
+    → Fills (fillRows q m t inits ops out s) (Rows count) out′ s′
 unfolding fillRows filledOf filledWith laid
-filled-is m t inits ops out s out′ s′ count clean o b c =
+filled-is q m t inits ops out s out′ s′ count clean o b c =
     let R : List ℕ = rowNumbers (filledRows m t inits ops) in
     let written : out′ ≡ R ++ drop (length R) out = o ∙ ap (λ (n : ℕ). R ++ drop n out) (zero-add (length R)) in
     fills-same {f = record { answer = 0; place = 0; count = count; output = out′; scratch = s′ }} (refl, (refl, refl))
     ((λ i. record { answer = 0; place = 0; count = c i; output = written i; scratch = b i })
-    ∙ sym (ap (λ (x : Bool). cond x (filledWith (filledRows m t inits ops) out s) (rowRefused (rowsFault p m (map (λ i. i .value) inits) 1 inits ops) out s)) (eq-eqb (rowsFault p m (map (λ i. i .value) inits) 1 inits ops .number) 0 clean)))
+    ∙ sym (ap (λ (x : Bool). cond x (filledWith (filledRows m t inits ops) out s) (rowRefused (rowsFault q m (map (λ i. i .value) inits) 1 inits ops) out s)) (eq-eqb (rowsFault q m (map (λ i. i .value) inits) 1 inits ops .number) 0 clean)))
 
 -- the rows in two parts, as they are lent
 module _ (rows : List ℕ) (n t : ℕ) (all : length rows ≡ 4 * (n + t)) where
@@ -111,12 +110,12 @@ module _ (rows : List ℕ) (n t : ℕ) (all : length rows ≡ 4 * (n + t)) where
   pub op-words-count : 4 * t ≡ length opWords
   op-words-count = omega (arith, ap length (part-lent rows (4 * n)), length-drop (4 * n) rows)
 
-  pub parts-filled : (m : Memory) (out s : List ℕ)
-      → fillRows p m t (inputsIn initWords) (inputsIn opWords) out s ≡ fillRows p m t (take n (inputsIn rows)) (drop n (inputsIn rows)) out s
-  parts-filled m out s =
+  pub parts-filled : (q : ℕ) (m : Memory) (out s : List ℕ)
+      → fillRows q m t (inputsIn initWords) (inputsIn opWords) out s ≡ fillRows q m t (take n (inputsIn rows)) (drop n (inputsIn rows)) out s
+  parts-filled q m out s =
       let inits = inputs-take rows n (omega arith) in
       let ops = ap inputsIn (part-lent rows (4 * n)) ∙ inputs-drop rows n (omega arith) in
-      λ i. fillRows p m t (inits i) (ops i) out s
+      λ i. fillRows q m t (inits i) (ops i) out s
 
 -- what the library answers before it reads a row, by the four tests
 turned-either : (out s : List ℕ) (full : Filling) {number : ℕ} (a b c d : Bool) → number ≡ cond a (cond b (cond c (cond d 0 15) 14) 7) 4 → (number ≡ 0 → ⊥)
@@ -145,20 +144,20 @@ roomy m n t rows out s e =
       scratch-room = leb-true (room n t) (length s) (four .3);
     }
 
-module _ (k n t : ℕ) (rows out s : List ℕ) where
-  pub away-unknown : memoryCoded k ≡ none → Fills (fillOf p k n t rows out s) (Refused 4 0) out s
+module _ (q k n t : ℕ) (rows out s : List ℕ) where
+  pub away-unknown : memoryCoded k ≡ none → Fills (fillOf q k n t rows out s) (Refused 4 0) out s
   unfolding fillOf fillMemory turnedAway
   away-unknown e = fills-same (refused-fills 4 0 out s (omega arith)) (simp e)
 
   module _ (m : Memory) (known : memoryCoded k ≡ some m) where
-    pub away : {number : ℕ} → number ≡ awayBy m n t (length rows) (length out) (length s) → (number ≡ 0 → ⊥) → Fills (fillOf p k n t rows out s) (Refused number 0) out s
+    pub away : {number : ℕ} → number ≡ awayBy m n t (length rows) (length out) (length s) → (number ≡ 0 → ⊥) → Fills (fillOf q k n t rows out s) (Refused number 0) out s
     unfolding fillOf fillMemory turnedAway awayBy
     away {number} is fault =
         fills-same (refused-fills number 0 out s fault)
-        (turned-either out s (fillRows p m t (take n (inputsIn rows)) (drop n (inputsIn rows)) out s) (allowed m n t) (eqb (length rows) (4 * (n + t))) (leb (7 * room n t) (length out)) (leb (room n t) (length s)) is fault
-        ∙ sym (ap (λ (o : Option Memory). fillMemory p o n t rows out s) known))
+        (turned-either out s (fillRows q m t (take n (inputsIn rows)) (drop n (inputsIn rows)) out s) (allowed m n t) (eqb (length rows) (4 * (n + t))) (leb (7 * room n t) (length out)) (leb (room n t) (length s)) is fault
+        ∙ sym (ap (λ (o : Option Memory). fillMemory q o n t rows out s) known))
 
-    pub not-away : awayBy m n t (length rows) (length out) (length s) ≡ 0 → fillRows p m t (take n (inputsIn rows)) (drop n (inputsIn rows)) out s ≡ fillOf p k n t rows out s
+    pub not-away : awayBy m n t (length rows) (length out) (length s) ≡ 0 → fillRows q m t (take n (inputsIn rows)) (drop n (inputsIn rows)) out s ≡ fillOf q k n t rows out s
     unfolding fillOf fillMemory awayBy
     not-away e =
         let four = all-four (allowed m n t) (eqb (length rows) (4 * (n + t))) (leb (7 * room n t) (length out)) (leb (room n t) (length s)) e in

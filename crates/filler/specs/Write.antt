@@ -5,7 +5,6 @@ use mathlib.Core.Bool.{Bool, true}
 use mathlib.Core.Path.{_≡_}
 use mathlib.Core.List.{List}
 use lib.ListN.{length, getD, take, drop}
-use Rattle.field.specs.Field.{p}
 use Rattle.memory.specs.declared.Memory.{Memory}
 use Rattle.memory.specs.declared.Memory.the-variants.{Ram, Rom, Set, Stack, Queue}
 use Rattle.memory.specs.Rows.{sized, limit}
@@ -17,7 +16,7 @@ use Rattle.index.specs.Values.{valuesIn}
 use Rattle.layout.specs.Laid.{laid}
 use Rattle.filler.specs.Words.{TreeIn}
 use Rattle.filler.specs.Ends.{ending, EndingFits}
-use Rattle.faults.specs.Scan.{scanned}
+use Rattle.faults.specs.Scan.{scanned, initsScanned}
 
 -- how many cells the scratch words hold: those of a ram, the keys of a rom or set, or as many as a stack or queue may come to hold
 unfoldable pub widthOf : Memory → ℕ → ℕ → ℕ
@@ -31,7 +30,13 @@ widthOf Queue n t = t
 abbrev pub inSet : List ℕ → ℕ → Bool
 inSet values v = among v values
 
--- init rows and operations without fault, room for the rows after the init rows, and scratch words
+-- init rows without fault, at some modulus
+pub record CleanInits (inits : List ℕ) : Type 0 where
+  pub modulus : ℕ
+  pub none : initsScanned modulus 1 (inputsIn inits) .number ≡ 0
+
+-- init rows and operations without fault at some modulus, room for the rows after the init rows,
+-- and scratch words
 pub record Fillable (m : Memory) (n t : ℕ) (inits ops out s : List ℕ) : Type 0 where
   pub size : n ≤ limit
   pub count : t ≤ limit
@@ -40,7 +45,8 @@ pub record Fillable (m : Memory) (n t : ℕ) (inits ops out s : List ℕ) : Type
   pub operating : 4 * t ≡ length ops
   pub out-room : 7 * (n + 3 * t) ≤ length out
   pub scratch-room : room n t ≤ length s
-  pub clean : scanned p m (inSet (valuesIn inits)) n (n + 1) (inputsIn ops) .number ≡ 0
+  pub modulus : ℕ
+  pub clean : scanned modulus m (inSet (valuesIn inits)) n (n + 1) (inputsIn ops) .number ≡ 0
 
 -- scratch words that are all 0
 abbrev pub Blank : List ℕ → Type 0

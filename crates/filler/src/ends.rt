@@ -10,12 +10,12 @@ ghost use Rattle.index.specs.Values.{valuesIn};
 ghost use Rattle.layout.specs.Laid.{laid};
 ghost use Rattle.filler.specs.Ends.{cellEnds, CellsFit, valueEnds, ValuesFit, ranges, LookupsFit, CellsAndRangesFit, ending, EndingFits};
 
-const END: u32 = 8;
+const END: u64 = 8;
 
-const RANGE: u32 = 9;
+const RANGE: u64 = 9;
 
 // The end rows of so many cells from word `from` on; how many they are.
-fn cell_ends(w: usize, from: usize, count: usize, scratch: &[u32], out: &mut [u32]) -> usize
+fn cell_ends(w: usize, from: usize, count: usize, scratch: &[u64], out: &mut [u64]) -> usize
     requires { ⌜ CellsFit w from count (now scratch) (now out) ⌝ }
     ensures rows { λ _. ⌜ now (out .exit) ≡ laid (now (out .entry)) 0 (cellEnds w from count (now (scratch .entry))) ⌝ }
     ensures count { λ r. ⌜ r ≡ length (cellEnds w from count (now (scratch .entry))) ⌝ }
@@ -36,7 +36,7 @@ fn cell_ends(w: usize, from: usize, count: usize, scratch: &[u32], out: &mut [u3
 }
 
 // The end rows of n values, the lookups of which lie from word n on; how many they are.
-fn value_ends(n: usize, inits: &[u32], scratch: &[u32], out: &mut [u32]) -> usize
+fn value_ends(n: usize, inits: &[u64], scratch: &[u64], out: &mut [u64]) -> usize
     requires { ⌜ ValuesFit n (now inits) (now scratch) (now out) ⌝ }
     ensures rows { λ _. ⌜ now (out .exit) ≡ laid (now (out .entry)) 0 (valueEnds n (valuesIn (now (inits .entry))) (now (scratch .entry))) ⌝ }
     ensures count { λ r. ⌜ r ≡ length (valueEnds n (valuesIn (now (inits .entry))) (now (scratch .entry))) ⌝ }
@@ -56,7 +56,7 @@ fn value_ends(n: usize, inits: &[u32], scratch: &[u32], out: &mut [u32]) -> usiz
 }
 
 // So many range rows, the lookups of which lie from word `from` on.
-fn range_rows(from: usize, count: usize, scratch: &[u32], out: &mut [u32])
+fn range_rows(from: usize, count: usize, scratch: &[u64], out: &mut [u64])
     requires { ⌜ LookupsFit from count (now scratch) (now out) ⌝ }
     ensures { λ _. ⌜ now (out .exit) ≡ laid (now (out .entry)) 0 (ranges from count (now (scratch .entry))) ⌝ }
 {
@@ -74,7 +74,7 @@ fn range_rows(from: usize, count: usize, scratch: &[u32], out: &mut [u32])
 }
 
 // The end rows of so many cells, and then the range rows, to which a further part of the output is handed on; how many they are.
-fn cells_and_ranges(w: usize, t: usize, count: usize, scratch: &[u32], out: &mut [u32]) -> usize
+fn cells_and_ranges(w: usize, t: usize, count: usize, scratch: &[u64], out: &mut [u64]) -> usize
     requires { ⌜ CellsAndRangesFit w t count (now scratch) (now out) ⌝ }
     ensures rows { λ _. ⌜ now (out .exit) ≡ laid (now (out .entry)) 0 (cellEnds w 0 count (now (scratch .entry)) ++ ranges (2 * w) t (now (scratch .entry))) ⌝ }
     ensures count { λ r. ⌜ r ≡ length (cellEnds w 0 count (now (scratch .entry)) ++ ranges (2 * w) t (now (scratch .entry))) ⌝ }
@@ -91,9 +91,9 @@ pub(crate) fn finish(
     w: usize,
     t: usize,
     at: Cursor,
-    inits: &[u32],
-    scratch: &[u32],
-    out: &mut [u32],
+    inits: &[u64],
+    scratch: &[u64],
+    out: &mut [u64],
 ) -> usize
     requires { ⌜ EndingFits m w t at (now inits) (now scratch) (now out) ⌝ }
     ensures rows { λ _. ⌜ now (out .exit) ≡ laid (now (out .entry)) 0 (ending m w t at (now (inits .entry)) (now (scratch .entry))) ⌝ }

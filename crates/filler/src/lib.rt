@@ -1,5 +1,6 @@
 // Operations to advice: the filler's library. Rows are numbers in slices: 4 words an input row, 7 words an output row.
 use faults::Fault;
+use field::moduli::Modulus;
 use memory::Memory;
 use memory::numbers;
 use rules::sizes;
@@ -13,15 +14,15 @@ ghost use mathlib.Core.List.{map};
 ghost use mathlib.Core.Path.{_≡_};
 ghost use Prim.Native.Nat.{_+_, _*_, _≤_};
 ghost use lib.ListN.{length, take, drop, replicate};
-ghost use Rattle.field.specs.Field.{p};
+ghost use Rattle.field.specs.Moduli.{modulusOf};
 ghost use Rattle.runs.specs.Honest.{bare, filledRows};
 ghost use Rattle.memory.specs.Rows.{sized, limit};
 ghost use Rattle.runs.specs.Filler.{inputsIn, memoryCoded, rowsFault, fillRows, fillOf};
 ghost use Rattle.index.specs.Values.{valuesIn};
 ghost use Rattle.filler.specs.Answer.{filledOf, knownOf, awayBy, Roomy};
 ghost use Rattle.layout.specs.Laid.{laid};
-ghost use Rattle.faults.specs.Scan.{initsScanned, placedOf};
-ghost use Rattle.filler.specs.Write.{Fillable, Prepared};
+ghost use Rattle.faults.specs.Scan.{placedOf};
+ghost use Rattle.filler.specs.Write.{CleanInits, Fillable, Prepared};
 
 // What a fill comes to: how many rows it wrote, or the number and the place of its refusal.
 pub enum Filled {
@@ -49,9 +50,9 @@ fn memory_of(code: u32) -> Known
 }
 
 // Copies the init rows.
-fn copy_inits(n: usize, inits: &[u32], out: &mut [u32])
+fn copy_inits(n: usize, inits: &[u64], out: &mut [u64])
     requires { ⌜ (4 * n ≡ length (now inits)) × (7 * n ≤ length (now out)) ⌝ }
-    requires { ⌜ initsScanned p 1 (inputsIn (now inits)) .number ≡ 0 ⌝ }
+    requires { ⌜ CleanInits (now inits) ⌝ }
     ensures { λ _. ⌜ now (out .exit) ≡ laid (now (out .entry)) 0 (map bare (inputsIn (now (inits .entry)))) ⌝ }
 {
     let mut k = 0;
@@ -66,12 +67,12 @@ fn write_rows(
     m: Memory,
     n: usize,
     t: usize,
-    inits: &[u32],
-    ops: &[u32],
-    out: &mut [u32],
-    scratch: &mut [u32],
+    inits: &[u64],
+    ops: &[u64],
+    out: &mut [u64],
+    scratch: &mut [u64],
 ) -> usize
-    requires { ⌜ initsScanned p 1 (inputsIn (now inits)) .number ≡ 0 ⌝ }
+    requires { ⌜ CleanInits (now inits) ⌝ }
     requires { ⌜ 7 * n ≤ length (now out) ⌝ }
     requires { ⌜ Fillable m n t (now inits) (now ops) (drop (7 * n) (now out)) (now scratch) ⌝ }
     requires { ⌜ Prepared m n (now inits) (now scratch) ⌝ }
@@ -87,35 +88,43 @@ fn write_rows(
 }
 
 // The first fault of the rows, found with the scratch words as they are before the first operation.
-fn first_fault(m: Memory, n: usize, inits: &[u32], ops: &[u32], scratch: &mut [u32]) -> Fault
+fn first_fault(
+    field: Modulus,
+    m: Memory,
+    n: usize,
+    inits: &[u64],
+    ops: &[u64],
+    scratch: &mut [u64],
+) -> Fault
     requires { ⌜ (4 * n ≡ length (now inits)) × (n ≤ limit) × (n ≤ length (now scratch)) ⌝ }
     requires { ⌜ sized m n ≡ true ⌝ }
-    ensures fault { λ r. ⌜ placedOf r ≡ rowsFault p m (valuesIn (now (inits .entry))) 1 (inputsIn (now (inits .entry))) (inputsIn (now (ops .entry))) ⌝ }
+    ensures fault { λ r. ⌜ placedOf r ≡ rowsFault (modulusOf field) m (valuesIn (now (inits .entry))) 1 (inputsIn (now (inits .entry))) (inputsIn (now (ops .entry))) ⌝ }
     ensures prepared { λ _. ⌜ Prepared m n (now (inits .entry)) (now (scratch .exit)) ⌝ }
 {
     words::clear(scratch);
     write::prepare(m, n, inits, scratch);
-    faults::first(m, inits, &scratch[..n], ops)
+    faults::first(field, m, inits, &scratch[..n], ops)
 }
 
 // The filler on rows that are as many as they should be, with room.
 fn fill_rows(
+    field: Modulus,
     m: Memory,
     n: usize,
     t: usize,
-    rows: &[u32],
-    out: &mut [u32],
-    scratch: &mut [u32],
+    rows: &[u64],
+    out: &mut [u64],
+    scratch: &mut [u64],
 ) -> Filled
     requires { ⌜ Roomy m n t (now rows) (now out) (now scratch) ⌝ }
-    ensures answer { λ r. ⌜ r ≡ filledOf (fillRows p m t (take n (inputsIn (now (rows .entry)))) (drop n (inputsIn (now (rows .entry)))) (now (out .entry)) (now (scratch .entry))) ⌝ }
-    ensures output { λ _. ⌜ now (out .exit) ≡ fillRows p m t (take n (inputsIn (now (rows .entry)))) (drop n (inputsIn (now (rows .entry)))) (now (out .entry)) (now (scratch .entry)) .output ⌝ }
-    ensures words { λ _. ⌜ now (scratch .exit) ≡ fillRows p m t (take n (inputsIn (now (rows .entry)))) (drop n (inputsIn (now (rows .entry)))) (now (out .entry)) (now (scratch .entry)) .scratch ⌝ }
+    ensures answer { λ r. ⌜ r ≡ filledOf (fillRows (modulusOf field) m t (take n (inputsIn (now (rows .entry)))) (drop n (inputsIn (now (rows .entry)))) (now (out .entry)) (now (scratch .entry))) ⌝ }
+    ensures output { λ _. ⌜ now (out .exit) ≡ fillRows (modulusOf field) m t (take n (inputsIn (now (rows .entry)))) (drop n (inputsIn (now (rows .entry)))) (now (out .entry)) (now (scratch .entry)) .output ⌝ }
+    ensures words { λ _. ⌜ now (scratch .exit) ≡ fillRows (modulusOf field) m t (take n (inputsIn (now (rows .entry)))) (drop n (inputsIn (now (rows .entry)))) (now (out .entry)) (now (scratch .entry)) .scratch ⌝ }
 {
     let from = 4 * n;
     let inits = &rows[..from];
     let ops = &rows[from..];
-    let fault = first_fault(m, n, inits, ops, scratch);
+    let fault = first_fault(field, m, n, inits, ops, scratch);
     if fault.number != 0 {
         words::clear_both(out, scratch);
         return Filled::Refused(fault.number, fault.place);
@@ -127,7 +136,7 @@ fn fill_rows(
 fn turned_away(m: Memory, size: u32, count: u32, rows: usize, out: usize, scratch: usize) -> u32
     ensures { λ r. ⌜ r ≡ awayBy m size count rows out scratch ⌝ }
 {
-    if !sizes::allowed(m, size, count) {
+    if !sizes::allowed(m, size as u64, count as u64) {
         return numbers::NOT_ALLOWED;
     }
     let n = size as usize;
@@ -148,16 +157,17 @@ fn turned_away(m: Memory, size: u32, count: u32, rows: usize, out: usize, scratc
 
 // "The filler's library tests 4, 7 (rows not size + count), 14, 15, place 0, buffers as found; then each row."
 pub fn fill(
+    field: Modulus,
     memory: u32,
     size: u32,
     count: u32,
-    rows: &[u32],
-    out: &mut [u32],
-    scratch: &mut [u32],
+    rows: &[u64],
+    out: &mut [u64],
+    scratch: &mut [u64],
 ) -> Filled
-    ensures answer { λ r. ⌜ r ≡ filledOf (fillOf p memory size count (now (rows .entry)) (now (out .entry)) (now (scratch .entry))) ⌝ }
-    ensures output { λ _. ⌜ now (out .exit) ≡ fillOf p memory size count (now (rows .entry)) (now (out .entry)) (now (scratch .entry)) .output ⌝ }
-    ensures words { λ _. ⌜ now (scratch .exit) ≡ fillOf p memory size count (now (rows .entry)) (now (out .entry)) (now (scratch .entry)) .scratch ⌝ }
+    ensures answer { λ r. ⌜ r ≡ filledOf (fillOf (modulusOf field) memory size count (now (rows .entry)) (now (out .entry)) (now (scratch .entry))) ⌝ }
+    ensures output { λ _. ⌜ now (out .exit) ≡ fillOf (modulusOf field) memory size count (now (rows .entry)) (now (out .entry)) (now (scratch .entry)) .output ⌝ }
+    ensures words { λ _. ⌜ now (scratch .exit) ≡ fillOf (modulusOf field) memory size count (now (rows .entry)) (now (out .entry)) (now (scratch .entry)) .scratch ⌝ }
 {
     let Known::Is(m) = memory_of(memory) else {
         return Filled::Refused(numbers::NOT_ALLOWED, 0);
@@ -166,5 +176,5 @@ pub fn fill(
     if number != 0 {
         return Filled::Refused(number, 0);
     }
-    fill_rows(m, size as usize, count as usize, rows, out, scratch)
+    fill_rows(field, m, size as usize, count as usize, rows, out, scratch)
 }

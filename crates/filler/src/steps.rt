@@ -14,25 +14,25 @@ ghost use Rattle.filler.specs.Steps.{Turned, Advised, ramTold, Timely, r
 
 // The clock, and where the cells begin and end that a stack or a queue holds.
 pub(crate) struct Cursor {
-    pub clock: u32,
+    pub clock: u64,
     pub head: usize,
     pub tail: usize,
 }
 
 // The advice of an operation, and the cursor after it.
 pub(crate) struct Advice {
-    pub old: u32,
-    pub time: u32,
-    pub version: u32,
+    pub old: u64,
+    pub time: u64,
+    pub version: u64,
     pub next: Cursor,
 }
 
-const PUSH: u32 = 4;
+const PUSH: u64 = 4;
 
-const ENQUEUE: u32 = 6;
+const ENQUEUE: u64 = 6;
 
 // "version is the number of earlier lookups of the same key": the count in a slot, which rises by one.
-fn looked(slot: usize, scratch: &mut [u32]) -> u32
+fn looked(slot: usize, scratch: &mut [u64]) -> u64
     requires { ⌜ (slot < length (now scratch)) × (getD (now scratch) slot 0 < limit) ⌝ }
     ensures version { λ r. ⌜ r ≡ getD (now (scratch .entry)) slot 0 ⌝ }
     ensures counted { λ r. ⌜ now (scratch .exit) ≡ set (now (scratch .entry)) slot (getD (now (scratch .entry)) slot 0 + 1) ⌝ }
@@ -43,14 +43,14 @@ fn looked(slot: usize, scratch: &mut [u32]) -> u32
 }
 
 // Guard 1 stores; guard 0 loads.
-fn chosen(guard: u32, value: u32, old: u32) -> u32
+fn chosen(guard: u64, value: u64, old: u64) -> u64
     ensures { λ r. ⌜ r ≡ cond (eqb guard 1) value old ⌝ }
 {
     if guard == 1 { value } else { old }
 }
 
 // An access at a clock.
-fn ram(w: usize, at: Cursor, row: Input, scratch: &mut [u32]) -> Advice
+fn ram(w: usize, at: Cursor, row: Input, scratch: &mut [u64]) -> Advice
     requires { ⌜ Timely w at (row .addr) (now scratch) ⌝ }
     ensures { λ r. ⌜ Advised (ramTold w at (row .guard) (row .addr) (row .value) (now (scratch .entry))) r (now (scratch .exit)) ⌝ }
 {
@@ -74,7 +74,7 @@ fn ram(w: usize, at: Cursor, row: Input, scratch: &mut [u32]) -> Advice
 }
 
 // A look.
-fn rom(w: usize, at: Cursor, addr: u32, inits: &[u32], scratch: &mut [u32]) -> Advice
+fn rom(w: usize, at: Cursor, addr: u64, inits: &[u64], scratch: &mut [u64]) -> Advice
     requires { ⌜ RomReady w addr (now inits) (now scratch) ⌝ }
     ensures { λ r. ⌜ Advised (romTold w at addr (now (inits .entry)) (now (scratch .entry))) r (now (scratch .exit)) ⌝ }
 {
@@ -89,7 +89,7 @@ fn rom(w: usize, at: Cursor, addr: u32, inits: &[u32], scratch: &mut [u32]) -> A
 }
 
 // A member: "equal set elements give all lookups to the first".
-fn member(w: usize, at: Cursor, value: u32, inits: &[u32], scratch: &mut [u32]) -> Advice
+fn member(w: usize, at: Cursor, value: u64, inits: &[u64], scratch: &mut [u64]) -> Advice
     requires { ⌜ SetReady w value (now inits) (now scratch) ⌝ }
     ensures { λ r. ⌜ Advised (setTold w at value (now (inits .entry)) (now (scratch .entry))) r (now (scratch .exit)) ⌝ }
 {
@@ -104,7 +104,7 @@ fn member(w: usize, at: Cursor, value: u32, inits: &[u32], scratch: &mut [u32]) 
 }
 
 // A push, executed or skipped.
-fn push(w: usize, at: Cursor, guard: u32, value: u32, scratch: &mut [u32]) -> Advice
+fn push(w: usize, at: Cursor, guard: u64, value: u64, scratch: &mut [u64]) -> Advice
     requires { ⌜ PushReady w at guard (now scratch) ⌝ }
     ensures { λ r. ⌜ Advised (pushTold w at guard value (now (scratch .entry))) r (now (scratch .exit)) ⌝ }
 {
@@ -134,7 +134,7 @@ fn push(w: usize, at: Cursor, guard: u32, value: u32, scratch: &mut [u32]) -> Ad
 }
 
 // A pop, executed or skipped: "A skipped pop gets old 0 and time clock − 1", and so looks up age 1.
-fn pop(w: usize, at: Cursor, guard: u32, scratch: &mut [u32]) -> Advice
+fn pop(w: usize, at: Cursor, guard: u64, scratch: &mut [u64]) -> Advice
     requires { ⌜ PopReady w at guard (now scratch) ⌝ }
     ensures { λ r. ⌜ Advised (popTold w at guard (now (scratch .entry))) r (now (scratch .exit)) ⌝ }
 {
@@ -166,7 +166,7 @@ fn pop(w: usize, at: Cursor, guard: u32, scratch: &mut [u32]) -> Advice
 }
 
 // An enqueue, executed or skipped.
-fn enqueue(at: Cursor, guard: u32, value: u32, scratch: &mut [u32]) -> Advice
+fn enqueue(at: Cursor, guard: u64, value: u64, scratch: &mut [u64]) -> Advice
     requires { ⌜ EnqueueReady at guard (now scratch) ⌝ }
     ensures { λ r. ⌜ Advised (enqueueTold at guard value (now (scratch .entry))) r (now (scratch .exit)) ⌝ }
 {
@@ -194,7 +194,7 @@ fn enqueue(at: Cursor, guard: u32, value: u32, scratch: &mut [u32]) -> Advice
 }
 
 // A dequeue, executed or skipped: "a skipped dequeue old 0".
-fn dequeue(at: Cursor, guard: u32, scratch: &[u32]) -> Advice
+fn dequeue(at: Cursor, guard: u64, scratch: &[u64]) -> Advice
     requires { ⌜ DequeueReady at guard (now scratch) ⌝ }
     ensures { λ r. ⌜ Advised (dequeueTold at guard (now (scratch .entry))) r (now (scratch .entry)) ⌝ }
 {
@@ -221,7 +221,7 @@ fn dequeue(at: Cursor, guard: u32, scratch: &[u32]) -> Advice
 }
 
 // A push or a pop.
-fn stack(w: usize, at: Cursor, row: Input, scratch: &mut [u32]) -> Advice
+fn stack(w: usize, at: Cursor, row: Input, scratch: &mut [u64]) -> Advice
     requires { ⌜ StackReady w at (row .op) (row .guard) (now scratch) ⌝ }
     ensures { λ r. ⌜ Advised (stackTold w at (row .op) (row .guard) (row .value) (now (scratch .entry))) r (now (scratch .exit)) ⌝ }
 {
@@ -232,7 +232,7 @@ fn stack(w: usize, at: Cursor, row: Input, scratch: &mut [u32]) -> Advice
 }
 
 // An enqueue or a dequeue.
-fn queue(at: Cursor, row: Input, scratch: &mut [u32]) -> Advice
+fn queue(at: Cursor, row: Input, scratch: &mut [u64]) -> Advice
     requires { ⌜ QueueReady at (row .op) (row .guard) (now scratch) ⌝ }
     ensures { λ r. ⌜ Advised (queueTold at (row .op) (row .guard) (row .value) (now (scratch .entry))) r (now (scratch .exit)) ⌝ }
 {
@@ -243,7 +243,7 @@ fn queue(at: Cursor, row: Input, scratch: &mut [u32]) -> Advice
 }
 
 // The advice of an operation of a memory of w cells.
-fn advise(m: Memory, w: usize, at: Cursor, row: Input, inits: &[u32], scratch: &mut [u32]) -> Advice
+fn advise(m: Memory, w: usize, at: Cursor, row: Input, inits: &[u64], scratch: &mut [u64]) -> Advice
     requires { ⌜ ReadyBy m w at (row .op) (row .guard) (row .addr) (row .value) (now inits) (now scratch) ⌝ }
     ensures { λ r. ⌜ Advised (toldBy m w at (row .op) (row .guard) (row .addr) (row .value) (now (inits .entry)) (now (scratch .entry))) r (now (scratch .exit)) ⌝ }
 {
@@ -262,10 +262,10 @@ pub(crate) fn step(
     w: usize,
     k: usize,
     at: Cursor,
-    inits: &[u32],
-    ops: &[u32],
-    out: &mut [u32],
-    scratch: &mut [u32],
+    inits: &[u64],
+    ops: &[u64],
+    out: &mut [u64],
+    scratch: &mut [u64],
 ) -> Cursor
     requires { ⌜ Ready m w k at (now inits) (now ops) (now scratch) ⌝ }
     ensures turned { λ _. ⌜ Turned k (turn m w k at (now (inits .entry)) (now (ops .entry)) (now (scratch .entry))) (now (out .entry)) (now (out .exit)) (now (scratch .exit)) ⌝ }

@@ -24,7 +24,7 @@ fn width(m: Memory, n: usize, t: usize) -> usize
 }
 
 // The init values as the contents of n cells, the times of which are 0.
-fn load(n: usize, inits: &[u32], scratch: &mut [u32])
+fn load(n: usize, inits: &[u64], scratch: &mut [u64])
     requires { ⌜ (4 * n ≡ length (now inits)) × (n ≤ length (now scratch)) ⌝ }
     requires { ⌜ Blank (now scratch) ⌝ }
     ensures { λ _. ⌜ Filled-in n (valuesIn (now (inits .entry))) (now (scratch .exit)) ⌝ }
@@ -37,7 +37,7 @@ fn load(n: usize, inits: &[u32], scratch: &mut [u32])
 }
 
 // The search tree over the elements of a set, in the first n words.
-fn build_tree(n: usize, inits: &[u32], scratch: &mut [u32])
+fn build_tree(n: usize, inits: &[u64], scratch: &mut [u64])
     requires { ⌜ (4 * n ≡ length (now inits)) × (n ≤ length (now scratch)) × (n ≤ limit) ⌝ }
     requires { ⌜ Blank (now scratch) ⌝ }
     ensures { λ _. ⌜ TreeBuilt n (now (inits .entry)) (now (scratch .exit)) ⌝ }
@@ -46,7 +46,7 @@ fn build_tree(n: usize, inits: &[u32], scratch: &mut [u32])
 }
 
 // The scratch words before the first operation.
-pub(crate) fn prepare(m: Memory, n: usize, inits: &[u32], scratch: &mut [u32])
+pub(crate) fn prepare(m: Memory, n: usize, inits: &[u64], scratch: &mut [u64])
     requires { ⌜ (4 * n ≡ length (now inits)) × (n ≤ length (now scratch)) × (n ≤ limit) ⌝ }
     requires { ⌜ Blank (now scratch) ⌝ }
     ensures { λ _. ⌜ Prepared m n (now (inits .entry)) (now (scratch .exit)) ⌝ }
@@ -65,10 +65,10 @@ fn operations(
     m: Memory,
     n: usize,
     t: usize,
-    inits: &[u32],
-    ops: &[u32],
-    out: &mut [u32],
-    scratch: &mut [u32],
+    inits: &[u64],
+    ops: &[u64],
+    out: &mut [u64],
+    scratch: &mut [u64],
 ) -> Cursor
     requires { ⌜ Fillable m n t (now inits) (now ops) (now out) (now scratch) ⌝ }
     requires { ⌜ Prepared m n (now inits) (now scratch) ⌝ }
@@ -93,10 +93,10 @@ pub(crate) fn rows_after(
     m: Memory,
     n: usize,
     t: usize,
-    inits: &[u32],
-    ops: &[u32],
-    out: &mut [u32],
-    scratch: &mut [u32],
+    inits: &[u64],
+    ops: &[u64],
+    out: &mut [u64],
+    scratch: &mut [u64],
 ) -> usize
     requires { ⌜ Fillable m n t (now inits) (now ops) (now out) (now scratch) ⌝ }
     requires { ⌜ Prepared m n (now inits) (now scratch) ⌝ }

@@ -6,7 +6,6 @@ use mathlib.Core.Path.{_≡_, refl, sym, _∙_, ap, ap₂}
 use mathlib.Core.List.{List}
 use lib.ListN.{length, take}
 use borrow.Author.Tests.{eq-eqb, ne-eqb}
-use Rattle.field.specs.Field.{p}
 use Rattle.runs.specs.declared.Intake.{Intake}
 use Rattle.memory.specs.Step.{raise}
 use Rattle.runs.specs.Filler.{memoryCode, Filling, fillOf}
@@ -43,9 +42,9 @@ unfolding rowsDue
 end-due i = let same = end-values i in omega (arith, same .1, same .2)
 
 -- an ending, by what is printed and left
-ended-as : (g : Gathered) (out filled scratch cleared text printed : List ℕ) (r : Put) (e : Ending) → endingOf g out scratch ≡ e → filled ≡ e .output → cleared ≡ e .scratch
-    → Putting text 0 (e .text) r printed → Ended g out filled scratch cleared text printed r
-ended-as g out filled scratch cleared text printed r e is output left put =
+ended-as : (q : ℕ) (g : Gathered) (out filled scratch cleared text printed : List ℕ) (r : Put) (e : Ending) → endingOf q g out scratch ≡ e → filled ≡ e .output → cleared ≡ e .scratch
+    → Putting text 0 (e .text) r printed → Ended q g out filled scratch cleared text printed r
+ended-as q g out filled scratch cleared text printed r e is output left put =
     let same = put-text text 0 (ap (λ (x : Ending). x .text) (sym is)) put in
     record {
       output = output ∙ ap (λ (x : Ending). x .output) (sym is);
@@ -54,13 +53,13 @@ ended-as g out filled scratch cleared text printed r e is output left put =
       bytes = same .1;
     }
 
-module _ (i : Intake) (ws out scratch text : List ℕ) {x : Intake} (end : x ≡ endTaken i) {r : Put} {printed : List ℕ} where
+module _ (q : ℕ) (i : Intake) (ws out scratch text : List ℕ) {x : Intake} (end : x ≡ endTaken i) {r : Put} {printed : List ℕ} where
   -- a fault
   pub ended-refused : (x .answer ≡ 0 → ⊥) → Putting text 0 (refusalText (x .answer) (x .line)) r printed
-      → Ended (gathered i ws) out out scratch scratch text printed r
+      → Ended q (gathered i ws) out out scratch scratch text printed r
   unfolding endingOf gathered refusedWith
   ended-refused some put =
-      ended-as (gathered i ws) out out scratch scratch text printed r (refusedWith (x .answer) (x .line) out scratch)
+      ended-as q (gathered i ws) out out scratch scratch text printed r (refusedWith (x .answer) (x .line) out scratch)
       (rw (sym end, ne-eqb (x .answer) 0 some) refl)
       refl
       refl
@@ -68,30 +67,30 @@ module _ (i : Intake) (ws out scratch text : List ℕ) {x : Intake} (end : x ≡
 
   -- what the library makes of the rows
   pub ended-filled : (x .answer ≡ 0) → (due count code : ℕ) → due ≡ rowsDue x → count ≡ min (4 * due) (length ws) → code ≡ memoryCode (x .memory)
-      → (filled : Filled) (output cleared : List ℕ) → Fills (fillOf p code (x .size) (x .count) (take count ws) out scratch) filled output cleared
-      → Putting text 0 (answerText filled output) r printed → Ended (gathered i ws) out output scratch cleared text printed r
+      → (filled : Filled) (output cleared : List ℕ) → Fills (fillOf q code (x .size) (x .count) (take count ws) out scratch) filled output cleared
+      → Putting text 0 (answerText filled output) r printed → Ended q (gathered i ws) out output scratch cleared text printed r
   unfolding endingOf gathered dueWords endedBy
   ended-filled none due count code dues counts codes filled output cleared fills put =
       let rows : take count ws ≡ take (4 * rowsDue i) ws =
       ap (λ (n : ℕ). take n ws) counts ∙ take-within (4 * due) ws ∙ ap (λ (n : ℕ). take (4 * n) ws) (dues ∙ ap rowsDue end ∙ end-due i) in
-      let filling : Filling = fillOf p (memoryCode (x .memory)) (x .size) (x .count) (take (4 * rowsDue i) ws) out scratch in
+      let filling : Filling = fillOf q (memoryCode (x .memory)) (x .size) (x .count) (take (4 * rowsDue i) ws) out scratch in
       let left : Fills filling filled output cleared = fills-same fills (rw (codes, rows) refl) in
       let same : answerText filled output ≡ answerText (filledOf filling) (filling .output) = ap₂ answerText (left .0) (left .1 .0) in
-      ended-as (gathered i ws) out output scratch cleared text printed r (endedBy filling)
+      ended-as q (gathered i ws) out output scratch cleared text printed r (endedBy filling)
       (rw (sym end, eq-eqb (x .answer) 0 none) refl)
       (left .1 .0)
       (left .1 .1)
       (put-text text 0 same put)
 
 -- the end of input, with the kept bytes at the front of the buffer
-pub finished : (was : Progress) (buffer words : List ℕ) (count : ℕ) → count ≡ min (was .kept) (length buffer) → (i : Intake) (stored : List ℕ)
-    → gathered i stored ≡ lastIn (lineTaken p) (gathered (was .intake) words) (take count buffer) → (out filled scratch cleared text printed : List ℕ) (r : Put)
-    → Ended (gathered i stored) out filled scratch cleared text printed r → Finished (leftBy was words buffer) stored out filled scratch cleared text printed r
+pub finished : (q : ℕ) (was : Progress) (buffer words : List ℕ) (count : ℕ) → count ≡ min (was .kept) (length buffer) → (i : Intake) (stored : List ℕ)
+    → gathered i stored ≡ lastIn (lineTaken q) (gathered (was .intake) words) (take count buffer) → (out filled scratch cleared text printed : List ℕ) (r : Put)
+    → Ended q (gathered i stored) out filled scratch cleared text printed r → Finished q (leftBy was words buffer) stored out filled scratch cleared text printed r
 unfolding endOf endIn standsFor leftBy piece gathered
-finished was buffer words count counts i stored last out filled scratch cleared text printed r ended =
+finished q was buffer words count counts i stored last out filled scratch cleared text printed r ended =
     let front : take count buffer ≡ take (was .kept) buffer = ap (λ (n : ℕ). take n buffer) counts ∙ take-within (was .kept) buffer in
-    let whole : gathered i stored ≡ endOf (leftBy was words buffer) =
-    last ∙ ap (lastIn (lineTaken p) (gathered (was .intake) words)) front in
+    let whole : gathered i stored ≡ endOf q (leftBy was words buffer) =
+    last ∙ ap (lastIn (lineTaken q) (gathered (was .intake) words)) front in
     record {
       rows = ap (λ (g : Gathered). g .words) whole;
       ended = rw whole at ended;

@@ -10,7 +10,8 @@ use lib.Dec.{eqb}
 use lib.ListN.{length, take, drop, length-append, length-take, length-drop, take-append-drop}
 use lib.Seq.{take-suc, take-all}
 use borrow.Author.Tests.{eq-eqb, le-leb}
-use Rattle.field.specs.Field.{p}
+use Rattle.field.specs.declared.moduli.Modulus.{Modulus}
+use Rattle.field.specs.Moduli.{modulusOf}
 use Rattle.memory.specs.declared.Memory.{Memory}
 use Rattle.memory.specs.declared.Row.{Row}
 use Rattle.runs.specs.declared.Intake.{Intake}
@@ -84,7 +85,7 @@ inputs-short (o ∷ g ∷ []) = omega arith
 inputs-short (o ∷ g ∷ a ∷ []) = omega arith
 inputs-short (o ∷ g ∷ a ∷ v ∷ rest) = omega (arith, inputs-short rest)
 
-module _ (m : Memory) (n t : ℕ) (ws out scratch : List ℕ) (fit : allowed m n t ≡ true) (all : length ws ≡ 4 * (n + t)) (few : n + t ≤ 256) (wide : 7 * room n t ≤ length out) (deep : room n t ≤ length scratch) where
+module _ (q : ℕ) (m : Memory) (n t : ℕ) (ws out scratch : List ℕ) (fit : allowed m n t ≡ true) (all : length ws ≡ 4 * (n + t)) (few : n + t ≤ 256) (wide : 7 * room n t ≤ length out) (deep : room n t ≤ length scratch) where
   inits : List Input
   inits = take n (inputsIn ws)
 
@@ -92,7 +93,7 @@ module _ (m : Memory) (n t : ℕ) (ws out scratch : List ℕ) (fit : allowed m n
   ops = drop n (inputsIn ws)
 
   -- the library tests none of 4, 7, 14 and 15
-  fills : fillOf p (memoryCode m) n t ws out scratch ≡ fillRows p m t inits ops out scratch
+  fills : fillOf q (memoryCode m) n t ws out scratch ≡ fillRows q m t inits ops out scratch
   unfolding fillOf fillMemory inits ops
   fills =
       rw (
@@ -104,19 +105,19 @@ module _ (m : Memory) (n t : ℕ) (ws out scratch : List ℕ) (fit : allowed m n
       )
       refl
 
-  place-small : rowsFault p m (map (λ i. i .value) inits) 1 inits ops .place + 3 ≤ 4294967295
+  place-small : rowsFault q m (map (λ i. i .value) inits) 1 inits ops .place + 3 ≤ 4294967295
   unfolding inits ops
   place-small =
       let halves : length inits + length ops ≡ length (inputsIn ws) = sym (length-append inits ops) ∙ ap length (take-append-drop n (inputsIn ws)) in
-      omega (arith, rows-placed p m (map (λ i. i .value) inits) 1 inits ops, halves, inputs-short ws)
+      omega (arith, rows-placed q m (map (λ i. i .value) inits) 1 inits ops, halves, inputs-short ws)
 
   -- so what is printed of what it leaves is what is printed of the rows
-  fill-text : endedBy (fillOf p (memoryCode m) n t ws out scratch) .text ≡ runText p m n t (inputsIn ws)
+  fill-text : endedBy (fillOf q (memoryCode m) n t ws out scratch) .text ≡ runText q m n t (inputsIn ws)
   unfolding endedBy answerText filledOf fillRows runText filledWith rowRefused inits ops
   fill-text = rw fills (go (eqb (f .number) 0) refl)
     where
       f : Placed
-      f = rowsFault p m (map (λ i. i .value) (take n (inputsIn ws))) 1 (take n (inputsIn ws)) (drop n (inputsIn ws))
+      f = rowsFault q m (map (λ i. i .value) (take n (inputsIn ws))) 1 (take n (inputsIn ws)) (drop n (inputsIn ws))
 
       rows : List Row
       rows = filledRows m t (take n (inputsIn ws)) (drop n (inputsIn ws))
@@ -126,9 +127,9 @@ module _ (m : Memory) (n t : ℕ) (ws out scratch : List ℕ) (fit : allowed m n
       go true e = ap filledText (all-rows rows (drop (length (rowNumbers rows)) out))
       go false e = rw e (ap (refusalText (f .number)) (unfold raise top in omega (arith, place-small)))
 
-module _ (out scratch : List ℕ) (wide : 4480 ≤ length out) (deep : 640 ≤ length scratch) where
+module _ (q : ℕ) (out scratch : List ℕ) (wide : 4480 ≤ length out) (deep : 640 ≤ length scratch) where
   -- the end of input, where size and count are taken and there is room for all
-  ending-text : (k : ℕ) (g : Gathered) → Fitted k g → 1024 ≤ k → endingOf g out scratch .text ≡ gatheredText p g
+  ending-text : (k : ℕ) (g : Gathered) → Fitted k g → 1024 ≤ k → endingOf q g out scratch .text ≡ gatheredText q g
   unfolding endingOf gatheredText refusedWith
   ending-text k g h many = go (eqb (x .answer) 0)
     where
@@ -148,10 +149,10 @@ module _ (out scratch : List ℕ) (wide : 4480 ≤ length out) (deep : 640 ≤ l
       small = fill-limited (x .memory) (x .size) (x .count) taken
 
       go : (b : Bool)
-          → cond b (endedBy (fillOf p (memoryCode (x .memory)) (x .size) (x .count) (dueWords g) out scratch)) (refusedWith (x .answer) (x .line) out scratch) .text
-          ≡ cond b (runText p (x .memory) (x .size) (x .count) (inputsIn (dueWords g))) (refusalText (x .answer) (x .line))
+          → cond b (endedBy (fillOf q (memoryCode (x .memory)) (x .size) (x .count) (dueWords g) out scratch)) (refusedWith (x .answer) (x .line) out scratch) .text
+          ≡ cond b (runText q (x .memory) (x .size) (x .count) (inputsIn (dueWords g))) (refusalText (x .answer) (x .line))
       go true =
-          fill-text (x .memory) (x .size) (x .count) (dueWords g) out scratch (unfold fillAllowed in both-pass (allowed (x .memory) (x .size) (x .count)) _ taken .0)
+          fill-text q (x .memory) (x .size) (x .count) (dueWords g) out scratch (unfold fillAllowed in both-pass (allowed (x .memory) (x .size) (x .count)) _ taken .0)
           (unfold dueWords rowsDue in omega (arith, length-take (4 * (i .size + i .count)) (g .words), h .room, same .1, same .2, small .0, small .1))
           (omega (arith, small .0, small .1))
           (unfold room in omega (arith, small .0, small .1))
@@ -160,39 +161,40 @@ module _ (out scratch : List ℕ) (wide : 4480 ≤ length out) (deep : 640 ≤ l
 
   -- so the program prints what its definition says of its input
   program-text : (input words : List ℕ) → 1024 ≤ length words
-      → endingOf (endIn (lineTaken p) (bytesIn (lineTaken p) (unfilled words) input)) out scratch .text ≡ fillText p input
+      → endingOf q (endIn (lineTaken q) (bytesIn (lineTaken q) (unfilled words) input)) out scratch .text ≡ fillText q input
   unfolding fillEnd fillLimit
   program-text input words many =
-      ending-text (length words) (endIn (lineTaken p) (bytesIn (lineTaken p) (unfilled words) input)) (fitted-end p input words) many
-      ∙ fill-stream-is-text p input words many
+      ending-text (length words) (endIn (lineTaken q) (bytesIn (lineTaken q) (unfilled words) input)) (fitted-end q input words) many
+      ∙ fill-stream-is-text q input words many
 
   -- a whole input at once: its whole lines, and its last line if that is not ended
   pub whole-input :
-      (input words : List ℕ) → 1024 ≤ length words → (was : Progress) → was ≡ begun → (stored : List ℕ) (taken : Taken) → LinesTaken (lineTaken p) (gathered (was .intake) words) input (gathered (taken .intake) stored) (taken .used)
-      → (i : Intake) (ws : List ℕ) → gathered i ws ≡ lastIn (lineTaken p) (gathered (taken .intake) stored) (take (length input - taken .used) (drop (taken .used) input))
-      → (filled cleared text printed : List ℕ) (r : Put) → Ended (gathered i ws) out filled scratch cleared text printed r
-      → Putting text 0 (fillText p input) r printed
+      (input words : List ℕ) → 1024 ≤ length words → (k : Modulus) (was : Progress) → was ≡ begun k → (stored : List ℕ) (taken : Taken) → LinesTaken (lineTaken q) (gathered (was .intake) words) input (gathered (taken .intake) stored) (taken .used)
+      → (i : Intake) (ws : List ℕ) → gathered i ws ≡ lastIn (lineTaken q) (gathered (taken .intake) stored) (take (length input - taken .used) (drop (taken .used) input))
+      → (filled cleared text printed : List ℕ) (r : Put) → Ended q (gathered i ws) out filled scratch cleared text printed r
+      → Putting text 0 (fillText q input) r printed
   unfolding begun unfilled endIn piece
-  whole-input input words many was e stored taken lines i ws last filled cleared text printed r ended =
+  whole-input input words many k was e stored taken lines i ws last filled cleared text printed r ended =
       let s : Gathered = gathered (taken .intake) stored in
       let rest = drop (taken .used) input in
       let all : length rest ≤ length input - taken .used = omega (arith, length-drop (taken .used) input) in
-      let begins : LinesTaken (lineTaken p) (gathered untaken words) input s (taken .used) = rw e at lines in
-      let read = block-read (lineTaken p) (cut-line p) (gathered untaken words) s input (taken .used) (begins .lines) (begins .rest) in
-      let same : gathered i ws ≡ endIn (lineTaken p) (bytesIn (lineTaken p) (unfilled words) input) =
+      let begins : LinesTaken (lineTaken q) (gathered untaken words) input s (taken .used) = rw e at lines in
+      let read = block-read (lineTaken q) (cut-line q) (gathered untaken words) s input (taken .used) (begins .lines) (begins .rest) in
+      let same : gathered i ws ≡ endIn (lineTaken q) (bytesIn (lineTaken q) (unfilled words) input) =
       last
-      ∙ ap (lastIn (lineTaken p) s) (take-all (length input - taken .used) rest all)
-      ∙ sym (last-cut (lineTaken p) (cut-line p) s rest)
-      ∙ ap (endIn (lineTaken p)) (sym read) in
-      put-text text 0 (ap (λ (g : Gathered). endingOf g out scratch .text) same ∙ program-text input words many) (ended .answer, ended .bytes)
+      ∙ ap (lastIn (lineTaken q) s) (take-all (length input - taken .used) rest all)
+      ∙ sym (last-cut (lineTaken q) (cut-line q) s rest)
+      ∙ ap (endIn (lineTaken q)) (sym read) in
+      put-text text 0 (ap (λ (g : Gathered). endingOf q g out scratch .text) same ∙ program-text input words many) (ended .answer, ended .bytes)
 
 -- an input in pieces, where there is room for all
 pub pieces-are-text : PiecesAreText
 unfolding leftBy begun unfilled endOf fillLimit room started
-pieces-are-text words buffer calls h stored out filled scratch cleared text printed r lent finished =
+pieces-are-text k words buffer calls h stored out filled scratch cleared text printed r lent finished =
+    let q = modulusOf k in
     let input = joined calls in
-    let read = calls-read Gathered (lineTaken p) (gathered untaken words) buffer calls h in
-    let same = ap (λ (v : Piece Gathered). endingOf (endIn (lineTaken p) v) out scratch .text) read ∙ program-text out scratch (lent .output) (lent .counts) input words (lent .rows) in
+    let read = calls-read Gathered (lineTaken q) (gathered untaken words) buffer calls h in
+    let same = ap (λ (v : Piece Gathered). endingOf q (endIn (lineTaken q) v) out scratch .text) read ∙ program-text q out scratch (lent .output) (lent .counts) input words (lent .rows) in
     let put = put-text text 0 same (finished .ended .answer, finished .ended .bytes) in
-    let whole = put-whole text (fillText p input) (omega (arith, fill-text-short p input, lent .bytes)) put in
+    let whole = put-whole text (fillText q input) (omega (arith, fill-text-short q input, lent .bytes)) put in
     record { answer = whole .0; bytes = whole .1 }

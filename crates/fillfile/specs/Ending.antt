@@ -6,7 +6,6 @@ use mathlib.Core.Bool.{cond}
 use mathlib.Core.List.{List, [], _∷_, _++_}
 use lib.Dec.{eqb}
 use lib.ListN.{length}
-use Rattle.field.specs.Field.{p}
 use Rattle.memory.specs.declared.Row.{Row}
 use Rattle.memory.specs.Step.{raise}
 use Rattle.runs.specs.Filler.{memoryCode, Filling, fillOf}
@@ -45,25 +44,25 @@ endedBy f = record { text = answerText (filledOf f) (f .output); output = f .out
 unfoldable pub refusedWith : ℕ → ℕ → List ℕ → List ℕ → Ending
 refusedWith f l out scratch = record { text = refusalText f l; output = out; scratch = scratch }
 
--- the fault, or what the filler's library makes of the rows
-unfoldable pub endingOf : Gathered → List ℕ → List ℕ → Ending
-endingOf g out scratch =
+-- the fault, or what the filler's library makes of the rows, modulo q
+unfoldable pub endingOf : ℕ → Gathered → List ℕ → List ℕ → Ending
+endingOf q g out scratch =
     let i = endTaken (g .intake) in
-    cond (eqb (i .answer) 0) (endedBy (fillOf p (memoryCode (i .memory)) (i .size) (i .count) (dueWords g) out scratch))
+    cond (eqb (i .answer) 0) (endedBy (fillOf q (memoryCode (i .memory)) (i .size) (i .count) (dueWords g) out scratch))
     (refusedWith (i .answer) (i .line) out scratch)
 
 -- after the last line: what is printed, and the lent slices
-pub record Ended (g : Gathered) (out filled scratch cleared text printed : List ℕ) (r : Put) : Type 0 where
-  pub output : filled ≡ endingOf g out scratch .output
-  pub scratch-words : cleared ≡ endingOf g out scratch .scratch
-  pub answer : r ≡ putOf (length text) 0 (endingOf g out scratch .text)
-  pub bytes : printed ≡ written text 0 (endingOf g out scratch .text)
+pub record Ended (q : ℕ) (g : Gathered) (out filled scratch cleared text printed : List ℕ) (r : Put) : Type 0 where
+  pub output : filled ≡ endingOf q g out scratch .output
+  pub scratch-words : cleared ≡ endingOf q g out scratch .scratch
+  pub answer : r ≡ putOf (length text) 0 (endingOf q g out scratch .text)
+  pub bytes : printed ≡ written text 0 (endingOf q g out scratch .text)
 
 -- what the lines leave where the input ends, after what the last call left
-unfoldable pub endOf : Left Gathered → Gathered
-endOf l = endIn (lineTaken p) (standsFor l)
+unfoldable pub endOf : ℕ → Left Gathered → Gathered
+endOf q l = endIn (lineTaken q) (standsFor l)
 
 -- The end of input: what is printed, and the lent slices
-pub record Finished (l : Left Gathered) (stored out filled scratch cleared text printed : List ℕ) (r : Put) : Type 0 where
-  pub rows : stored ≡ endOf l .words
-  pub ended : Ended (endOf l) out filled scratch cleared text printed r
+pub record Finished (q : ℕ) (l : Left Gathered) (stored out filled scratch cleared text printed : List ℕ) (r : Put) : Type 0 where
+  pub rows : stored ≡ endOf q l .words
+  pub ended : Ended q (endOf q l) out filled scratch cleared text printed r

@@ -3,7 +3,8 @@
 use Prim.Native.Nat.{ℕ, _+_, _*_, _≤_}
 use mathlib.Core.List.{List}
 use lib.ListN.{length}
-use Rattle.field.specs.Field.{p}
+use Rattle.field.specs.declared.moduli.Modulus.{Modulus}
+use Rattle.field.specs.Moduli.{modulusOf}
 use Rattle.runs.specs.Filler.{room}
 use Rattle.runs.specs.FillFile.{fillLimit, fillText}
 use Rattle.runs.specs.FillStream.{Gathered, lineTaken}
@@ -21,11 +22,12 @@ pub record Lent (words out scratch text : List ℕ) : Type 0 where
   pub counts : room fillLimit fillLimit ≤ length scratch
   pub bytes : 85797 ≤ length text
 
--- "It reads its whole input first": after `start`, any calls of `advance`, each handed what the call before it left and bytes of any number behind it, `finish`
--- prints what the filling program prints for all those bytes, joined. (Program: pieces-are-text)
+-- "It reads its whole input first": for any modulus, after `start`, any calls of `advance`, each
+-- handed what the call before it left and bytes of any number behind it, `finish` prints what the
+-- filling program prints for all those bytes, joined. (Program: pieces-are-text)
 abbrev pub PiecesAreText : Type 0
 PiecesAreText =
-    (words buffer : List ℕ) (calls : List (Call Gathered)) → Calls (lineTaken p) (leftBy begun words buffer) calls
+    (k : Modulus) (words buffer : List ℕ) (calls : List (Call Gathered)) → Calls (lineTaken (modulusOf k)) (leftBy (begun k) words buffer) calls
     → (stored out filled scratch cleared text printed : List ℕ) (r : Put) → Lent words out scratch text
-    → Finished (lastLeft (leftBy begun words buffer) calls) stored out filled scratch cleared text printed r
-    → Printed (fillText p (joined calls)) printed r
+    → Finished (modulusOf k) (lastLeft (leftBy (begun k) words buffer) calls) stored out filled scratch cleared text printed r
+    → Printed (fillText (modulusOf k) (joined calls)) printed r

@@ -1,10 +1,12 @@
 // The end of input: what the filler's library makes of the rows, and what is printed.
+use field::moduli::Modulus;
 use filler::Filled;
 use memory::Memory;
 use runs::Intake;
 use text::Put;
 ghost use mathlib.Core.Path.{_≡_};
 ghost use lib.ListN.{length};
+ghost use Rattle.field.specs.Moduli.{modulusOf};
 ghost use Rattle.runs.specs.Filler.{memoryCode};
 ghost use Rattle.memory.specs.Print.{filledText};
 ghost use Rattle.runs.specs.FillStream.{gathered};
@@ -25,7 +27,7 @@ fn code(memory: Memory) -> u32
 }
 
 // Puts the names line and the rows of the output.
-fn rows(text: &mut [u8], out: &[u32], count: usize) -> Put
+fn rows(text: &mut [u8], out: &[u64], count: usize) -> Put
     ensures answer { λ r. ⌜ r ≡ putOf (length (now (text .entry))) 0 (filledText (outputRows count (now (out .entry)))) ⌝ }
     ensures slice { λ _. ⌜ now (text .exit) ≡ written (now (text .entry)) 0 (filledText (outputRows count (now (out .entry)))) ⌝ }
 {
@@ -45,7 +47,7 @@ fn rows(text: &mut [u8], out: &[u32], count: usize) -> Put
 }
 
 // Puts what the filler's library came to: the rows, or its refusal.
-fn answer(text: &mut [u8], out: &[u32], filled: Filled) -> Put
+fn answer(text: &mut [u8], out: &[u64], filled: Filled) -> Put
     ensures answer { λ r. ⌜ r ≡ putOf (length (now (text .entry))) 0 (answerText filled (now (out .entry))) ⌝ }
     ensures slice { λ _. ⌜ now (text .exit) ≡ written (now (text .entry)) 0 (answerText filled (now (out .entry))) ⌝ }
 {
@@ -59,13 +61,14 @@ fn answer(text: &mut [u8], out: &[u32], filled: Filled) -> Put
 
 // What is printed after the last line: the fault, or what the filler's library makes of the rows.
 pub fn finish(
+    field: Modulus,
     intake: Intake,
-    words: &[u32],
-    out: &mut [u32],
-    scratch: &mut [u32],
+    words: &[u64],
+    out: &mut [u64],
+    scratch: &mut [u64],
     text: &mut [u8],
 ) -> Put
-    ensures { λ r. ⌜ Ended (gathered intake (now (words .entry))) (now (out .entry)) (now (out .exit)) (now (scratch .entry)) (now (scratch .exit)) (now (text .entry)) (now (text .exit)) r ⌝ }
+    ensures { λ r. ⌜ Ended (modulusOf field) (gathered intake (now (words .entry))) (now (out .entry)) (now (out .exit)) (now (scratch .entry)) (now (scratch .exit)) (now (text .entry)) (now (text .exit)) r ⌝ }
 {
     let intake = intake::ended(intake);
     if intake.answer != 0 {
@@ -74,6 +77,7 @@ pub fn finish(
     let end = decimal::smaller(4 * intake::due(intake), words.len());
     let memory = intake.memory;
     let filled = filler::fill(
+        field,
         code(memory),
         intake.size,
         intake.count,

@@ -8,14 +8,14 @@ ghost use Rattle.index.specs.Tree.{Rows, sideOf, joined, childAt, stopOf
 // Where a search ends: the node, and what is left of the key there.
 pub(crate) struct Stop {
     pub node: usize,
-    pub key: u32,
+    pub key: u64,
 }
 
 // Two nodes below this fit a word.
-const LIMIT: u32 = 65536;
+const LIMIT: u64 = 65536;
 
 // The child in a word on the side that a key names.
-fn side(key: u32, word: u32) -> usize
+fn side(key: u64, word: u64) -> usize
     ensures { λ r. ⌜ r ≡ sideOf key word ⌝ }
 {
     if key % 2 == 0 {
@@ -26,10 +26,10 @@ fn side(key: u32, word: u32) -> usize
 }
 
 // A word with a node put on that side.
-fn join(key: u32, word: u32, node: usize) -> u32
+fn join(key: u64, word: u64, node: usize) -> u64
     ensures { λ r. ⌜ r ≡ joined key word node ⌝ }
 {
-    let low = (node % LIMIT as usize) as u32;
+    let low = (node % LIMIT as usize) as u64;
     if key % 2 == 0 {
         low * LIMIT + word % LIMIT
     } else {
@@ -38,7 +38,7 @@ fn join(key: u32, word: u32, node: usize) -> u32
 }
 
 // The child of a node among n nodes on the side that a key names, or 0.
-fn child(n: usize, links: &[u32], node: usize, key: u32) -> usize
+fn child(n: usize, links: &[u64], node: usize, key: u64) -> usize
     ensures { λ r. ⌜ r ≡ childAt n (now (links .entry)) node key ⌝ }
 {
     let next = side(key, words::word(links, node));
@@ -52,7 +52,7 @@ fn child(n: usize, links: &[u32], node: usize, key: u32) -> usize
 }
 
 // The search for a value.
-fn walk(n: usize, inits: &[u32], links: &[u32], value: u32) -> Stop
+fn walk(n: usize, inits: &[u64], links: &[u64], value: u64) -> Stop
     requires { ⌜ Rows n (now inits) ⌝ }
     ensures stop { λ r. ⌜ r ≡ stopOf value (valuesIn (now (inits .entry))) (now (links .entry)) ⌝ }
     ensures inside { λ r. ⌜ r .node < n ⌝ }
@@ -71,7 +71,7 @@ fn walk(n: usize, inits: &[u32], links: &[u32], value: u32) -> Stop
 }
 
 // Node k is put where the search for its value ends, unless an earlier node has that value.
-fn insert(n: usize, k: usize, inits: &[u32], links: &mut [u32])
+fn insert(n: usize, k: usize, inits: &[u64], links: &mut [u64])
     requires { ⌜ Rows n (now inits) ⌝ }
     requires { ⌜ k < n ⌝ }
     ensures { λ _. ⌜ now (links .exit) ≡ inserted (valuesIn (now (inits .entry))) (now (links .entry)) k ⌝ }
@@ -88,7 +88,7 @@ fn insert(n: usize, k: usize, inits: &[u32], links: &mut [u32])
 }
 
 // The tree over all elements, where the words lent are 0.
-pub fn grow(inits: &[u32], links: &mut [u32])
+pub fn grow(inits: &[u64], links: &mut [u64])
     ensures { λ _. ⌜ now (links .exit) ≡ grown (valuesIn (now (inits .entry))) (now (links .entry)) ⌝ }
 {
     let n = inits.len() / 4;
@@ -100,7 +100,7 @@ pub fn grow(inits: &[u32], links: &mut [u32])
 }
 
 // The place that the tree gives of a value, or how many elements there are.
-pub fn find(inits: &[u32], links: &[u32], value: u32) -> usize
+pub fn find(inits: &[u64], links: &[u64], value: u64) -> usize
     ensures { λ r. ⌜ r ≡ found value (valuesIn (now (inits .entry))) (now (links .entry)) ⌝ }
 {
     let n = inits.len() / 4;

@@ -1,5 +1,5 @@
 // An input row of the filler by its form: 3, 5 and 6 of the numbers, which are tested before 11 to 13.
-use field::Field;
+use field::moduli::Modulus;
 use memory::Memory;
 use memory::Op;
 use memory::Phase;
@@ -8,29 +8,38 @@ use memory::numbers;
 use rules::columns;
 ghost use mathlib.Core.List.{[], _∷_};
 ghost use mathlib.Core.Path.{_≡_};
-ghost use Rattle.field.specs.Field.{p};
+ghost use Rattle.field.specs.Moduli.{modulusOf};
 ghost use Rattle.memory.specs.Bytes.{allBelow};
 ghost use Rattle.memory.specs.Rows.{opsDue};
 ghost use Rattle.runs.specs.Filler.{inputFault};
 
 // Not 3: "a number is p or more".
-fn below(guard: u32, addr: u32, value: u32) -> bool
-    ensures { λ r. ⌜ r ≡ allBelow p (guard ∷ addr ∷ value ∷ []) ⌝ }
+fn below(k: Modulus, guard: u64, addr: u64, value: u64) -> bool
+    ensures { λ r. ⌜ r ≡ allBelow (modulusOf k) (guard ∷ addr ∷ value ∷ []) ⌝ }
 {
-    if guard >= Field::MODULUS {
+    let p = k.modulus();
+    if guard >= p {
         return false;
     }
-    if addr >= Field::MODULUS {
+    if addr >= p {
         return false;
     }
-    value < Field::MODULUS
+    value < p
 }
 
 // The fault of an input row in a phase of a memory by its form, or 0.
-pub fn fault(memory: Memory, phase: Phase, op: Op, guard: u32, addr: u32, value: u32) -> u32
-    ensures { λ r. ⌜ r ≡ inputFault p memory (opsDue memory phase) (record { op = op; guard = guard; addr = addr; value = value }) ⌝ }
+pub fn fault(
+    k: Modulus,
+    memory: Memory,
+    phase: Phase,
+    op: Op,
+    guard: u64,
+    addr: u64,
+    value: u64,
+) -> u32
+    ensures { λ r. ⌜ r ≡ inputFault (modulusOf k) memory (opsDue memory phase) (record { op = op; guard = guard; addr = addr; value = value }) ⌝ }
 {
-    if !below(guard, addr, value) {
+    if !below(k, guard, addr, value) {
         return numbers::TOO_LARGE;
     }
     if !due::takes(memory, phase, op) {

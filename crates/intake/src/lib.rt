@@ -1,4 +1,5 @@
 // The filling program's input, line by line, from the bytes of a block to an intake and the words of its rows. Section "The filler" of document 01.
+use field::moduli::Modulus;
 use memory::HEAD_LINES;
 use memory::numbers;
 use runs::Intake;
@@ -6,7 +7,7 @@ use runs::Intake;
 mod line;
 
 ghost use mathlib.Core.Path.{_≡_};
-ghost use Rattle.field.specs.Field.{p};
+ghost use Rattle.field.specs.Moduli.{modulusOf};
 ghost use Rattle.memory.specs.File.{headLines};
 ghost use Rattle.memory.specs.Step.{raise};
 ghost use Rattle.memory.specs.Pieces.{lastIn};
@@ -38,13 +39,13 @@ pub struct Taken {
 }
 
 // Every whole line of a block, each as a part of the block.
-pub fn lines_in(mut intake: Intake, block: &[u8], words: &mut [u32]) -> Taken
-    ensures { λ r. ⌜ LinesTaken (lineTaken p) (gathered intake (now (words .entry))) (now (block .entry)) (gathered (r .intake) (now (words .exit))) (r .used) ⌝ }
+pub fn lines_in(field: Modulus, mut intake: Intake, block: &[u8], words: &mut [u64]) -> Taken
+    ensures { λ r. ⌜ LinesTaken (lineTaken (modulusOf field)) (gathered intake (now (words .entry))) (now (block .entry)) (gathered (r .intake) (now (words .exit))) (r .used) ⌝ }
 {
     let mut used = 0;
     let mut at = pieces::feed_from(block, used);
     while at < block.len() {
-        intake = line::line(intake, &block[used..at], true, words);
+        intake = line::line(field, intake, &block[used..at], true, words);
         used = at + 1;
         at = pieces::feed_from(block, used);
     }
@@ -52,13 +53,13 @@ pub fn lines_in(mut intake: Intake, block: &[u8], words: &mut [u32]) -> Taken
 }
 
 // The last line: one without its line feed is a line all the same.
-pub fn last(intake: Intake, rest: &[u8], words: &mut [u32]) -> Intake
-    ensures { λ r. ⌜ gathered r (now (words .exit)) ≡ lastIn (lineTaken p) (gathered intake (now (words .entry))) (now (rest .entry)) ⌝ }
+pub fn last(field: Modulus, intake: Intake, rest: &[u8], words: &mut [u64]) -> Intake
+    ensures { λ r. ⌜ gathered r (now (words .exit)) ≡ lastIn (lineTaken (modulusOf field)) (gathered intake (now (words .entry))) (now (rest .entry)) ⌝ }
 {
     if rest.len() == 0 {
         return intake;
     }
-    line::line(intake, rest, false, words)
+    line::line(field, intake, rest, false, words)
 }
 
 // Where the lines end: 1 for an empty input, 7 for a missing line 2 or 3 and for a missing row.

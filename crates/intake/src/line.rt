@@ -1,5 +1,6 @@
 // One whole line of the filling program's input: line 1, the value line, line 3, and the rows.
 use super::due;
+use field::moduli::Modulus;
 use fill_lines::Given;
 use fill_lines::Task;
 use lines::Named;
@@ -12,7 +13,7 @@ use rules::ops;
 use runs::Intake;
 ghost use mathlib.Core.Path.{_≡_};
 ghost use Prim.Native.Nat.{_<_};
-ghost use Rattle.field.specs.Field.{p};
+ghost use Rattle.field.specs.Moduli.{modulusOf};
 ghost use Rattle.memory.specs.File.{firstLine};
 ghost use Rattle.runs.specs.FillFile.{parseJob, inputLineFault};
 ghost use Rattle.runs.specs.FillStream.{gathered, refuseOn, jobTaken, refuseRow, inputTaken, rowTaken, lineTaken};
@@ -32,7 +33,7 @@ pub fn refuse(mut intake: Intake, answer: u32, line: u32) -> Intake
 pub fn refuse_row(intake: Intake, answer: u32) -> Intake
     ensures { λ r. ⌜ r ≡ refuseRow intake answer ⌝ }
 {
-    let line = counters::raise(intake.passed, FIRST_LINE);
+    let line = counters::raise(intake.passed, FIRST_LINE as u64);
     refuse(intake, answer, line)
 }
 
@@ -59,10 +60,10 @@ fn task_fault(task: Task) -> u32
 }
 
 // The value line: its values, or refused with its number on line 2.
-fn opened(intake: Intake, text: &[u8], ended: bool) -> Intake
-    ensures { λ r. ⌜ r ≡ jobTaken intake (parseJob p (record { text = now (text .entry); ended = ended })) ⌝ }
+fn opened(field: Modulus, intake: Intake, text: &[u8], ended: bool) -> Intake
+    ensures { λ r. ⌜ r ≡ jobTaken intake (parseJob (modulusOf field) (record { text = now (text .entry); ended = ended })) ⌝ }
 {
-    let read = fill_lines::job_line(text, ended);
+    let read = fill_lines::job_line(field, text, ended);
     let Task::Fill {
         memory,
         size,
@@ -83,8 +84,8 @@ fn opened(intake: Intake, text: &[u8], ended: bool) -> Intake
 }
 
 // 3, 5 and 6 of the next row.
-fn fault(intake: Intake, op: Op, guard: u32, addr: u32, value: u32) -> u32
-    ensures { λ r. ⌜ r ≡ inputLineFault p (intake .memory) (intake .size) (intake .passed) (givenRow op guard addr value) ⌝ }
+fn fault(field: Modulus, intake: Intake, op: Op, guard: u64, addr: u64, value: u64) -> u32
+    ensures { λ r. ⌜ r ≡ inputLineFault (modulusOf field) (intake .memory) (intake .size) (intake .passed) (givenRow op guard addr value) ⌝ }
 {
     let memory = intake.memory;
     let phase = if intake.passed < intake.size {
@@ -92,11 +93,11 @@ fn fault(intake: Intake, op: Op, guard: u32, addr: u32, value: u32) -> u32
     } else {
         Phase::Operating
     };
-    inputs::fault(memory, phase, op, guard, addr, value)
+    inputs::fault(field, memory, phase, op, guard, addr, value)
 }
 
 // Writes row k.
-fn store_row(words: &mut [u32], k: u32, op: u32, guard: u32, addr: u32, value: u32)
+fn store_row(words: &mut [u64], k: u32, op: u64, guard: u64, addr: u64, value: u64)
     ensures { λ _. ⌜ now (words .exit) ≡ storedWords (now (words .entry)) k op guard addr value ⌝ }
 {
     let at = 4 * (k as usize);
@@ -107,11 +108,19 @@ fn store_row(words: &mut [u32], k: u32, op: u32, guard: u32, addr: u32, value: u
 }
 
 // A row that is due: it is stored, or its fault is the refusal.
-fn take(mut intake: Intake, op: Op, guard: u32, addr: u32, value: u32, words: &mut [u32]) -> Intake
-    ensures { λ r. ⌜ gathered r (now (words .exit)) ≡ inputTaken p (gathered intake (now (words .entry))) (givenRow op guard addr value) ⌝ }
+fn take(
+    field: Modulus,
+    mut intake: Intake,
+    op: Op,
+    guard: u64,
+    addr: u64,
+    value: u64,
+    words: &mut [u64],
+) -> Intake
+    ensures { λ r. ⌜ gathered r (now (words .exit)) ≡ inputTaken (modulusOf field) (gathered intake (now (words .entry))) (givenRow op guard addr value) ⌝ }
 {
     let number = ops::code(op);
-    let fault = fault(intake, op, guard, addr, value);
+    let fault = fault(field, intake, op, guard, addr, value);
     if fault != 0 {
         return refuse_row(intake, fault);
     }
@@ -131,13 +140,13 @@ fn given_fault(given: Given) -> u32
 }
 
 // A row line; a surplus one is 7.
-fn row(intake: Intake, text: &[u8], ended: bool, words: &mut [u32]) -> Intake
-    ensures { λ r. ⌜ gathered r (now (words .exit)) ≡ rowTaken p (gathered intake (now (words .entry))) (record { text = now (text .entry); ended = ended }) ⌝ }
+fn row(field: Modulus, intake: Intake, text: &[u8], ended: bool, words: &mut [u64]) -> Intake
+    ensures { λ r. ⌜ gathered r (now (words .exit)) ≡ rowTaken (modulusOf field) (gathered intake (now (words .entry))) (record { text = now (text .entry); ended = ended }) ⌝ }
 {
     if due(intake) <= intake.passed as usize {
         return refuse_row(intake, numbers::NOT_COMPLETE);
     }
-    let read = fill_lines::input_line(text, ended);
+    let read = fill_lines::input_line(field, text, ended);
     let Given::Row {
         op,
         guard,
@@ -147,12 +156,12 @@ fn row(intake: Intake, text: &[u8], ended: bool, words: &mut [u32]) -> Intake
     else {
         return refuse_row(intake, given_fault(read));
     };
-    take(intake, op, guard, addr, value, words)
+    take(field, intake, op, guard, addr, value, words)
 }
 
 // Any line: after a fault nothing is read.
-pub fn line(intake: Intake, text: &[u8], ended: bool, words: &mut [u32]) -> Intake
-    ensures { λ r. ⌜ gathered r (now (words .exit)) ≡ lineTaken p (gathered intake (now (words .entry))) (record { text = now (text .entry); ended = ended }) ⌝ }
+pub fn line(field: Modulus, intake: Intake, text: &[u8], ended: bool, words: &mut [u64]) -> Intake
+    ensures { λ r. ⌜ gathered r (now (words .exit)) ≡ lineTaken (modulusOf field) (gathered intake (now (words .entry))) (record { text = now (text .entry); ended = ended }) ⌝ }
 {
     if intake.answer != 0 {
         return intake;
@@ -160,8 +169,8 @@ pub fn line(intake: Intake, text: &[u8], ended: bool, words: &mut [u32]) -> Inta
     let place = intake.place;
     match place {
         1 => named(intake, 1, fill_lines::fill_names_line(text, ended)),
-        2 => opened(intake, text, ended),
+        2 => opened(field, intake, text, ended),
         3 => named(intake, 3, fill_lines::input_names_line(text, ended)),
-        _ => row(intake, text, ended, words),
+        _ => row(field, intake, text, ended, words),
     }
 }

@@ -1,25 +1,26 @@
 -- What a line reads as, by the key of its name: a row line and the value line of a file.
 -- Assumes nothing.
-use Prim.Native.Nat.{ℕ, zero, suc, _%_}
+use Prim.Native.Nat.{ℕ, zero, suc, _≤_}
 use mathlib.Core.Path.{_≡_, refl, sym, ap, subst⁻¹, _∙_}
 use mathlib.Core.Bool.{Bool, true, false, cond}
 use mathlib.Core.List.{List, [], _∷_}
-use native.Mathlib.Nat.{mod-eq-of-lt}
 use native.Mathlib.Omega.{arith}
-use lib.Dec.{eqb}
+use lib.Dec.{eqb, leb}
+use borrow.Author.Tests.{eqb-true, leb-true}
 use lib.ListN.{getD, drop}
-use Rattle.field.specs.Field.{p}
+use Rattle.memory.specs.declared.Memory.{Memory}
+use Rattle.memory.specs.declared.Memory.the-variants.{Ram, Rom, Set, Stack, Queue}
 use Rattle.memory.specs.declared.Op.{Op}
 use Rattle.memory.specs.declared.Parsed.{Parsed}
 use Rattle.memory.specs.declared.Parsed.the-variants.{Sound, Fault}
 use Rattle.memory.specs.Bytes.{Line, comma, fields, numbers, allBelow, Fields, named, noFields, readable, fieldsOf}
 use Rattle.memory.specs.Names.{opNamed, memoryNamed}
-use Rattle.memory.specs.Rows.{rowFields, rowWith, rowRead, parseRow}
+use Rattle.memory.specs.Rows.{limit, sized, allowed, rowFields, rowWith, rowRead, parseRow}
 use Rattle.memory.specs.File.{shut, valueFields, openedBy, valuesRead, parseValues}
 use Rattle.keys.specs.Keys.{keyOf, first, opKeyed, memoryKeyed}
 use Rattle.fields.proofs.Parts.{Keyed, keyed, faulty, byKey}
 use Rattle.fields.proofs.Fields.{fields-first}
-use Rattle.fields.proofs.Elements.{number-fits}
+use Rattle.keys.proofs.Bools.{and-both}
 use Rattle.keys.proofs.Keys.{Bytes, op-keyed, memory-keyed}
 
 -- the first field of a text of bytes is a text of bytes
@@ -50,13 +51,13 @@ module _ {A C : Type 0} (answer : Fields → A) (read : C → List ℕ → A) (k
   fields-keyed true true name ns reads = reads
 
   pub line-keyed :
-      ((name ns : List ℕ) → read (known name) ns ≡ answer (named name ns)) → (k : ℕ) (line : Line)
-      → known (first (line .text)) ≡ told (keyOf (first (line .text))) → {found : Keyed} → found ≡ byKey (fieldsOf p k line)
-      → onKeyed (λ f. answer (noFields f)) read told found ≡ answer (fieldsOf p k line)
+      ((name ns : List ℕ) → read (known name) ns ≡ answer (named name ns)) → (q k : ℕ) (line : Line)
+      → known (first (line .text)) ≡ told (keyOf (first (line .text))) → {found : Keyed} → found ≡ byKey (fieldsOf q k line)
+      → onKeyed (λ f. answer (noFields f)) read told found ≡ answer (fieldsOf q k line)
   unfolding fieldsOf
-  line-keyed reads k line agree is =
+  line-keyed reads q k line agree is =
       ap (onKeyed (λ f. answer (noFields f)) read told) is
-      ∙ fields-keyed (readable k line) (allBelow p ns) name ns (ap (λ (c : C). read c ns) (sym here) ∙ reads name ns)
+      ∙ fields-keyed (readable k line) (allBelow q ns) name ns (ap (λ (c : C). read c ns) (sym here) ∙ reads name ns)
     where
       name : List ℕ
       name = getD (fields (line .text)) 0 []
@@ -67,6 +68,20 @@ module _ {A C : Type 0} (answer : Fields → A) (read : C → List ℕ → A) (k
       here : known name ≡ told (keyOf name)
       here = subst⁻¹ (λ (fs : List (List ℕ)). known (getD fs 0 []) ≡ told (keyOf (getD fs 0 []))) (fields-first (line .text)) agree
 
+-- an allowed size and count are at most 65,536
+pub allowed-fits : (m : Memory) (n t : ℕ) → allowed m n t ≡ true → (n ≤ 65536) × (t ≤ 65536)
+unfolding allowed sized limit
+allowed-fits m n t e =
+    let parts = and-both (sized m n) (leb t limit) e in
+    (size m (parts .0), leb-true t limit (parts .1))
+  where
+    size : (m : Memory) → sized m n ≡ true → n ≤ 65536
+    size Ram e = leb-true n limit e
+    size Rom e = leb-true n limit e
+    size Set e = leb-true n limit e
+    size Stack e = omega (arith, eqb-true n 0 e)
+    size Queue e = omega (arith, eqb-true n 0 e)
+
 module _ (line : Line) (are : Bytes (line .text)) where
   pub op-agrees : opNamed (first (line .text)) ≡ opKeyed (keyOf (first (line .text)))
   op-agrees = op-keyed (first (line .text)) (first-bytes (line .text) are)
@@ -74,19 +89,15 @@ module _ (line : Line) (are : Bytes (line .text)) where
   pub memory-agrees : memoryNamed (first (line .text)) ≡ memoryKeyed (keyOf (first (line .text)))
   memory-agrees = memory-keyed (first (line .text)) (first-bytes (line .text) are)
 
--- the element of a number below p is the number
-pub element-whole : (ns : List ℕ) → allBelow p ns ≡ true → (i : ℕ) → getD ns i 0 % 0x1_0000_0000 ≡ getD ns i 0
-element-whole ns below i = mod-eq-of-lt (number-fits ns below i)
-
 -- the answer of a row line, from what the name stands for and the numbers
 unfoldable pub rowOf : Op → List ℕ → Parsed
 rowOf o ns = Sound (rowWith o ns)
 
-module _ (line : Line) (are : Bytes (line .text)) where
-  pub row-keyed : {found : Keyed} → found ≡ byKey (fieldsOf p rowFields line) → onKeyed Fault rowOf opKeyed found ≡ parseRow p line
+module _ (q : ℕ) (line : Line) (are : Bytes (line .text)) where
+  pub row-keyed : {found : Keyed} → found ≡ byKey (fieldsOf q rowFields line) → onKeyed Fault rowOf opKeyed found ≡ parseRow q line
   unfolding parseRow rowRead rowOf
-  row-keyed is = line-keyed rowRead rowOf opNamed opKeyed (λ name ns. refl) rowFields line (op-agrees line are) is
+  row-keyed is = line-keyed rowRead rowOf opNamed opKeyed (λ name ns. refl) q rowFields line (op-agrees line are) is
 
-  pub values-keyed : {found : Keyed} → found ≡ byKey (fieldsOf p valueFields line) → onKeyed shut openedBy memoryKeyed found ≡ parseValues p line
+  pub values-keyed : {found : Keyed} → found ≡ byKey (fieldsOf q valueFields line) → onKeyed shut openedBy memoryKeyed found ≡ parseValues q line
   unfolding parseValues valuesRead
-  values-keyed is = line-keyed valuesRead openedBy memoryNamed memoryKeyed (λ name ns. refl) valueFields line (memory-agrees line are) is
+  values-keyed is = line-keyed valuesRead openedBy memoryNamed memoryKeyed (λ name ns. refl) q valueFields line (memory-agrees line are) is

@@ -1,16 +1,14 @@
 // The lines of a checked file: its two names lines, its value line and a row line. Sections "The file" and "The numbers" of document 01.
 // Each takes the bytes of a line before its line feed, and whether the line feed is there. Every slice is read, whatever it holds.
 ghost use mathlib.Core.Path.{_≡_};
-ghost use mathlib.Core.Bool.{true};
-ghost use Prim.Native.Nat.{_%_};
 ghost use lib.ListN.{getD};
-ghost use Rattle.field.specs.Field.{p};
-ghost use Rattle.memory.specs.Bytes.{allBelow};
+ghost use Rattle.field.specs.Moduli.{modulusOf};
 ghost use Rattle.memory.specs.Names.{valueNames, rowNames};
 ghost use Rattle.memory.specs.Rows.{rowWith, parseRow};
 ghost use Rattle.memory.specs.File.{openedBy, parseValues, namesFault};
 ghost use Rattle.keys.specs.Keys.{knownOf};
 ghost use Rattle.lines.specs.Answers.{openingOf, namedOf, namesNumber};
+use field::moduli::Modulus;
 use fields::Found;
 use keys::Known;
 use memory::Challenge;
@@ -21,8 +19,9 @@ use memory::Row;
 use memory::names::ROW_NAMES;
 use memory::names::VALUE_NAMES;
 use memory::numbers;
+use rules::sizes;
 
-// What a value line reads as: its values, or its fault 2, 3 or 4. Size and count are tested with the values.
+// What a value line reads as: its values, or its fault 2, 3 or 4.
 pub enum Opened {
     Opens {
         memory: Memory,
@@ -39,22 +38,18 @@ pub enum Named {
     Fault(u32),
 }
 
-// What 32 bits hold is below it.
-const WORD: u64 = 0x1_0000_0000;
-
-// A number of a line as an element of the field: its last 32 bits, which are all that a number below p has. 0 where there is none.
-pub fn element(numbers: &[u64], i: usize) -> u32
-    ensures { λ r. ⌜ r ≡ getD (now (numbers .entry)) i 0 % 0x1_0000_0000 ⌝ }
+// A number of a line; 0 where there is none.
+pub fn element(numbers: &[u64], i: usize) -> u64
+    ensures { λ r. ⌜ r ≡ getD (now (numbers .entry)) i 0 ⌝ }
 {
     if numbers.len() <= i {
         return 0;
     }
-    (numbers[i] % WORD) as u32
+    numbers[i]
 }
 
 // The row of an op and six numbers.
 fn row_of(op: Op, columns: &[u64]) -> Row
-    requires { ⌜ allBelow p (now columns) ≡ true ⌝ }
     ensures { λ r. ⌜ r ≡ rowWith op (now (columns .entry)) ⌝ }
 {
     Row {
@@ -69,11 +64,11 @@ fn row_of(op: Op, columns: &[u64]) -> Row
 }
 
 // What a row line reads as: a row, or its fault 2 or 3.
-pub fn row_line(text: &[u8], ended: bool) -> Parsed
-    ensures { λ r. ⌜ r ≡ parseRow p (record { text = now (text .entry); ended = ended }) ⌝ }
+pub fn row_line(k: Modulus, text: &[u8], ended: bool) -> Parsed
+    ensures { λ r. ⌜ r ≡ parseRow (modulusOf k) (record { text = now (text .entry); ended = ended }) ⌝ }
 {
     let mut columns = [0u64; 6];
-    let Found::Read { key, below } = fields::read(text, ended, &mut columns) else {
+    let Found::Read { key, below } = fields::read(k, text, ended, &mut columns) else {
         return Parsed::Fault(numbers::UNREADABLE);
     };
     if !below {
@@ -84,16 +79,20 @@ pub fn row_line(text: &[u8], ended: bool) -> Parsed
 
 // The values of a value line, or 4, from what its name is that of, and six numbers.
 fn opened_by(known: Known, values: &[u64]) -> Opened
-    requires { ⌜ allBelow p (now values) ≡ true ⌝ }
     ensures { λ r. ⌜ openingOf r ≡ openedBy (knownOf known) (now (values .entry)) ⌝ }
 {
     let Known::Is(memory) = known else {
         return Opened::Shut(numbers::NOT_ALLOWED);
     };
+    let size = element(values, 0);
+    let count = element(values, 1);
+    if !sizes::allowed(memory, size, count) {
+        return Opened::Shut(numbers::NOT_ALLOWED);
+    }
     Opened::Opens {
         memory,
-        size: element(values, 0),
-        count: element(values, 1),
+        size: size as u32,
+        count: count as u32,
         challenge: Challenge {
             r: element(values, 2),
             a: element(values, 3),
@@ -104,11 +103,11 @@ fn opened_by(known: Known, values: &[u64]) -> Opened
 }
 
 // What a value line reads as: its values, or its fault 2, 3 or 4.
-pub fn value_line(text: &[u8], ended: bool) -> Opened
-    ensures { λ r. ⌜ openingOf r ≡ parseValues p (record { text = now (text .entry); ended = ended }) ⌝ }
+pub fn value_line(k: Modulus, text: &[u8], ended: bool) -> Opened
+    ensures { λ r. ⌜ openingOf r ≡ parseValues (modulusOf k) (record { text = now (text .entry); ended = ended }) ⌝ }
 {
     let mut values = [0u64; 6];
-    let Found::Read { key, below } = fields::read(text, ended, &mut values) else {
+    let Found::Read { key, below } = fields::read(k, text, ended, &mut values) else {
         return Opened::Shut(numbers::UNREADABLE);
     };
     if !below {

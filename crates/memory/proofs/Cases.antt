@@ -26,5 +26,5 @@ unfolding bytes longest fitting comma feed onto same fields digit digits decimal
 counted-challenge = refl
 
 pub ram-products : RamProducts
-unfolding bytes longest fitting comma feed same onto fields digit digits decimalFrom numeral numerals numbers allBelow readable fieldsOf before linesOf memoryName memoryNamed opName opNamed opCode isOp raiseBy lowerBy raised lowered endsDue rowWith rowRead parseRow triple pair factor product initWrites rangeSetup rangeRead rangeWrite rangeEnds accessRead newOf accessWrites accessLookups cellEnds rangedLists listsOf endRows rangeRows fileLists parsedRow rowsOf parseRows openedBy valuesRead parseValues case ramCase openedProducts productsOf plus minus times p
+unfolding bytes longest fitting comma feed same onto fields digit digits decimalFrom numeral numerals numbers allBelow readable fieldsOf before linesOf memoryName memoryNamed opName opNamed opCode isOp limit sized allowed raiseBy lowerBy raised lowered endsDue rowWith rowRead parseRow triple pair factor product initWrites rangeSetup rangeRead rangeWrite rangeEnds accessRead newOf accessWrites accessLookups cellEnds rangedLists listsOf endRows rangeRows fileLists parsedRow rowsOf parseRows openedBy valuesRead parseValues case ramCase openedProducts productsOf plus minus times p
 ram-products = tt

@@ -11,6 +11,7 @@ use lib.Dec.{eqb, ltb}
 use lib.ListN.{length}
 use borrow.Author.Tests.{eqb-true, ne-eqb}
 use Rattle.algebra.specs.Hash.{hashFrom}
+use Rattle.field.specs.Moduli.{modulusOf}
 use Rattle.memory.specs.declared.Memory.{Memory}
 use Rattle.memory.specs.declared.Row.{Row}
 use Rattle.memory.specs.declared.Parsed.{Parsed}
@@ -19,15 +20,16 @@ use Rattle.memory.specs.declared.Challenge.{Challenge}
 use Rattle.memory.specs.declared.Context.{Context}
 use Rattle.memory.specs.declared.Products.{Products}
 use Rattle.memory.specs.declared.State.{State}
+use Rattle.memory.specs.declared.Lent.{Lent}
 use Rattle.memory.specs.declared.Report.{Report}
 use Rattle.memory.specs.Bytes.{Line, allBelow}
 use Rattle.memory.specs.Rows.{allowed, raised, lowered, depthProduct, rowBelow, parseRow, dueAfter, rowFault, unreadFault, parsedFault, lineFault}
 use Rattle.memory.specs.Gates.{inputsOf, multsOf}
 use Rattle.memory.specs.File.{parsedRow, rowsOf, parseRows, Refusal, refusal, firstFault, refused, accepted, balanceReport, rowsReport, valuesFault, valuesReport}
-use Rattle.memory.specs.Step.{raise, takesRows, due, refuseAt, refuseNext, refuseLast, passedRow, withContext, takeRow, takeParsed, stepOf, rowOf, accepting, endOf, reportOf, answerOf, freshContext, freshProducts, freshOf, multiplied, stepsOf, runOf}
+use Rattle.memory.specs.Step.{raise, takesRows, due, refuseAt, refuseNext, refuseLast, passedRow, withContext, takeRow, takeParsed, stepOf, rowOf, accepting, endOf, reportOf, answerOf, freshContext, freshProducts, freshOf, multiplied, stepsOf, runOf, lentStep, lentSteps, lentEnd, lentReport, lentAnswer}
 use Rattle.memory.specs.Equations.{fileLists, rangeBalances, memoryBalances}
 use Rattle.memory.specs.Bound.{accepts}
-use Rattle.memory.specs.Statements.{FoldIsFile, RunIsSteps, RunIsFile, FixedState, EndedState, RowAnswered, RefusalStays, AcceptsExactlyWhen, Holds}
+use Rattle.memory.specs.Statements.{FoldIsFile, RunIsSteps, LentIsSteps, RunIsFile, FixedState, EndedState, RowAnswered, RefusalStays, AcceptsExactlyWhen, Holds}
 use Rattle.memory.proofs.Due.{Passes, due-form}
 use Rattle.memory.proofs.Emitted.{contextOf, none, emitted, productsOf}
 use Rattle.memory.proofs.ReadRows.{fault-not-zero}
@@ -86,6 +88,11 @@ pub ended-answer : (s : State) → answerOf (endOf s) ≡ reportOf (endOf s)
 unfolding answerOf
 ended-answer s = rw (ended-state s) refl
 
+-- and so it is of a state that is lent
+pub lent-ended-answer : (l : Lent) → lentAnswer (lentEnd l) ≡ lentReport (lentEnd l)
+unfolding lentAnswer lentReport lentEnd
+lent-ended-answer l = ended-answer (l .state)
+
 -- what a row answers is the refusal so far,
 answered-number : (s : State) → answerOf s .answer ≡ s .context .answer
 unfolding answerOf takesRows reportOf refused
@@ -120,6 +127,21 @@ pub run-is-steps : RunIsSteps
 unfolding runOf stepsOf parseRows rowOf
 run-is-steps q s [] = refl
 run-is-steps q s (line ∷ lines) = run-is-steps q (stepOf q s (parseRow q line)) lines
+
+-- and rows handed to a state that is lent are so at its modulus
+lent-steps : (l : Lent) (xs : List Parsed) → lentSteps l xs ≡ record { field = l .field; state = stepsOf (modulusOf (l .field)) (l .state) xs }
+unfolding lentSteps lentStep stepsOf
+lent-steps l [] = refl
+lent-steps l (x ∷ xs) = lent-steps (lentStep l x) xs
+
+pub lent-is-steps : LentIsSteps
+unfolding lentEnd lentAnswer lentReport
+lent-is-steps l xs = record {
+  modulus = ap (λ (z : Lent). z .field) (lent-steps l xs);
+  rows = ap (λ (z : Lent). z .state) (lent-steps l xs);
+  answer = ap (λ (z : Lent). answerOf (z .state)) (lent-steps l xs);
+  report = ap (λ (z : Lent). reportOf (endOf (z .state))) (lent-steps l xs);
+}
 
 -- a refusal, or where there is none a report
 unfoldable pub unless : Refusal → Report → Report

@@ -1,7 +1,7 @@
 -- Every statement of this crate is proved.
 -- Assumes nothing.
 use Rattle.memory.specs.Promises.{Promises}
-use Rattle.memory.proofs.Fold.{fold-is-file, run-is-steps, run-is-file, fixed-state, ended-state, row-answered, refusal-stays, accepts-exactly-when}
+use Rattle.memory.proofs.Fold.{fold-is-file, run-is-steps, lent-is-steps, run-is-file, fixed-state, ended-state, row-answered, refusal-stays, accepts-exactly-when}
 use Rattle.memory.proofs.WholeFile.{file-accepted}
 use Rattle.memory.proofs.Answered.{malformed-answered, well-formed-answered}
 use Rattle.memory.proofs.Sight.{fault-by-form}
@@ -15,6 +15,7 @@ pub promises : Promises
 promises = record {
   fold = fold-is-file;
   runIsSteps = run-is-steps;
+  lentIsSteps = lent-is-steps;
   run = run-is-file;
   sight = fault-by-form;
   fixed = fixed-state;

@@ -6,7 +6,7 @@ use mathlib.Core.Bool.{Bool, true, false, cond}
 use mathlib.Core.Option.{Option, none, some}
 use mathlib.Core.List.{List, [], _∷_}
 use lib.Dec.{eqb, lit≤}
-use lib.ListN.{length}
+use lib.ListN.{getD, length}
 use Rattle.memory.specs.declared.Memory.{Memory}
 use Rattle.memory.specs.declared.Parsed.the-variants.{Fault}
 use Rattle.memory.specs.declared.Challenge.{Challenge}
@@ -16,7 +16,7 @@ use Rattle.memory.specs.declared.State.{State}
 use Rattle.memory.specs.Text.{bytes}
 use Rattle.memory.specs.Bytes.{Line, longest, linesOf}
 use Rattle.memory.specs.Names.{valueNames, rowNames, memoryNamed}
-use Rattle.memory.specs.Rows.{rowFields, rowRead, parseRow}
+use Rattle.memory.specs.Rows.{allowed, rowFields, rowRead, parseRow}
 use Rattle.memory.specs.File.{Opening, opens, shut, refused, parseRows, valuesFault, valuesReport, valueFields, openedBy, valuesRead, parseValues, namesFault, namesReport, openingReport, linesReport, fileReport}
 use Rattle.memory.specs.Step.{takesRows, refuseAt, rowOf, runOf, reportOf, freshContext, freshOf, refusedState, openedOf}
 use Rattle.memory.specs.Pieces.{cut}
@@ -95,7 +95,11 @@ Shuts (shut f) = eqb f 0 ≡ false
 shuts-opened : (m : Option Memory) (ns : List ℕ) → Shuts (openedBy m ns)
 unfolding openedBy
 shuts-opened none ns = refl
-shuts-opened (some m) ns = tt
+shuts-opened (some m) ns = by (allowed m (getD ns 0 0) (getD ns 1 0)) _ _ _ _
+  where
+    by : (fine : Bool) (m' : Memory) (n t : ℕ) (ch : Challenge) → Shuts (cond fine (opens m' n t ch) (shut 4))
+    by true m' n t ch = tt
+    by false m' n t ch = refl
 
 pub values-shut : (q : ℕ) (line : Line) → Shuts (parseValues q line)
 unfolding parseValues valuesRead

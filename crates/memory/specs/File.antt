@@ -101,13 +101,16 @@ pub data Opening : Type 0 where
 abbrev pub valueFields : ℕ
 valueFields = 7
 
--- the memory, and the numbers that follow it in these fields
+-- the memory, and the numbers that follow it in these fields. 4: "unknown memory, size or count not
+-- allowed"
 unfoldable pub openedBy : Option Memory → List ℕ → Opening
 openedBy none ns = shut 4
 openedBy (some m) ns =
-    opens m (getD ns 0 0) (getD ns 1 0) (record { r = getD ns 2 0; a = getD ns 3 0; b = getD ns 4 0; c = getD ns 5 0 })
+    cond (allowed m (getD ns 0 0) (getD ns 1 0))
+    (opens m (getD ns 0 0) (getD ns 1 0) (record { r = getD ns 2 0; a = getD ns 3 0; b = getD ns 4 0; c = getD ns 5 0 }))
+    (shut 4)
 
--- what the fields of a value line stand for. 4: "unknown memory"; of a known one, size and count are tested with the values
+-- what the fields of a value line stand for
 unfoldable pub valuesRead : Fields → Opening
 valuesRead (named name ns) = openedBy (memoryNamed name) ns
 valuesRead (noFields f) = shut f

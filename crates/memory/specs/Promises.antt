@@ -1,11 +1,12 @@
 -- Every statement of this crate, as the fields of one record: a proof of it is a proof of each. (Promises: promises)
 -- Assumes nothing.
-use Rattle.memory.specs.Statements.{FoldIsFile, RunIsSteps, RunIsFile, FaultByForm, FixedState, EndedState, RowAnswered, RefusalStays, AcceptsExactlyWhen, FileAccepted, MalformedAnswered, WellFormedAnswered, GatesByFormula, FactorsCounted, ChoicesCounted, HashesCounted, DepthsCounted, MultsCounted, ReportShort, StreamIsFile}
+use Rattle.memory.specs.Statements.{FoldIsFile, RunIsSteps, LentIsSteps, RunIsFile, FaultByForm, FixedState, EndedState, RowAnswered, RefusalStays, AcceptsExactlyWhen, FileAccepted, MalformedAnswered, WellFormedAnswered, GatesByFormula, FactorsCounted, ChoicesCounted, HashesCounted, DepthsCounted, MultsCounted, ReportShort, StreamIsFile}
 use Rattle.memory.specs.Cases.{CasesHold, CountedChallenge, RamProducts}
 
 pub record Promises : Type 0 where
   pub fold : FoldIsFile
   pub runIsSteps : RunIsSteps
+  pub lentIsSteps : LentIsSteps
   pub run : RunIsFile
   pub sight : FaultByForm
   pub fixed : FixedState

@@ -15,13 +15,15 @@ use Rattle.memory.specs.declared.Parsed.the-variants.{Sound}
 use Rattle.memory.specs.declared.Challenge.{Challenge}
 use Rattle.memory.specs.declared.State.{State}
 use Rattle.memory.specs.declared.Report.{Report}
+use Rattle.memory.specs.declared.Lent.{Lent}
+use Rattle.field.specs.Moduli.{modulusOf}
 use Rattle.memory.specs.Bytes.{Line, linesOf}
 use Rattle.memory.specs.Names.{valueNames, rowNames}
 use Rattle.memory.specs.Rows.{allowed, raised, lowered, rangesDue, formed, rowBelow, lineFault}
 use Rattle.memory.specs.Equations.{fileLists, rangeBalances, memoryBalances}
 use Rattle.memory.specs.Gates.{inputsOf, multsOf, factorsOf, choicesOf, hashesOf, depthsOf, guarded, skippedWith, rowsWith, inputsFormula, multsFormula, puts, takes}
 use Rattle.memory.specs.File.{refused, firstFault, rowsOf, parseRows, valuesFault, valuesReport, opens, parseValues, fileReport}
-use Rattle.memory.specs.Step.{takesRows, stepOf, endOf, stepsOf, runOf, freshOf, reportOf, answerOf}
+use Rattle.memory.specs.Step.{takesRows, stepOf, endOf, stepsOf, runOf, freshOf, reportOf, answerOf, lentSteps, lentEnd, lentReport, lentAnswer}
 use Rattle.memory.specs.Print.{reportText}
 use Rattle.memory.specs.Pieces.{bytesIn}
 use Rattle.memory.specs.Stream.{lineOf, unread, finishOf}
@@ -38,6 +40,18 @@ FoldIsFile =
 -- rows is one on lines, at `parseRows q lines`. (Fold: run-is-steps)
 abbrev pub RunIsSteps : Type 0
 RunIsSteps = (q : ℕ) (s : State) (lines : List Line) → runOf q s lines ≡ stepsOf q s (parseRows q lines)
+
+-- A state that is lent with its modulus: rows handed to it one call at a time, and the end of file,
+-- come to what the steps at that modulus come to, and the modulus stays.
+pub record LentRun (l : Lent) (xs : List Parsed) : Type 0 where
+  pub modulus : lentEnd (lentSteps l xs) .field ≡ l .field
+  pub rows : lentSteps l xs .state ≡ stepsOf (modulusOf (l .field)) (l .state) xs
+  pub answer : lentAnswer (lentSteps l xs) ≡ answerOf (stepsOf (modulusOf (l .field)) (l .state) xs)
+  pub report : lentReport (lentEnd (lentSteps l xs)) ≡ reportOf (endOf (stepsOf (modulusOf (l .field)) (l .state) xs))
+
+-- (Fold: lent-is-steps)
+abbrev pub LentIsSteps : Type 0
+LentIsSteps = (l : Lent) (xs : List Parsed) → LentRun l xs
 
 -- FoldIsFile at lines. (Fold: run-is-file)
 abbrev pub RunIsFile : Type 0

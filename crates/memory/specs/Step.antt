@@ -20,6 +20,8 @@ use Rattle.memory.specs.declared.Context.{Context}
 use Rattle.memory.specs.declared.Products.{Products}
 use Rattle.memory.specs.declared.State.{State}
 use Rattle.memory.specs.declared.Report.{Report}
+use Rattle.memory.specs.declared.Lent.{Lent}
+use Rattle.field.specs.Moduli.{modulusOf}
 use Rattle.memory.specs.Bytes.{Line}
 use Rattle.memory.specs.Names.{isOp}
 use Rattle.memory.specs.Rows.{raiseBy, lowerBy, endsDue, opsDue, opIn, formed, depthFactor, rowBelow, parseRow, sunkBy, dueBy, phaseBy, faultBy, unreadFault}
@@ -302,3 +304,21 @@ stepsOf q s (x ∷ xs) = stepsOf q (stepOf q s x) xs
 unfoldable pub runOf : ℕ → State → List Line → State
 runOf q s [] = s
 runOf q s (line ∷ lines) = runOf q (rowOf q s line) lines
+
+-- a row, rows, the end of file, what is printed and what a call answers, of a state that is lent
+-- with its modulus
+unfoldable pub lentStep : Lent → Parsed → Lent
+lentStep l x = record { field = l .field; state = stepOf (modulusOf (l .field)) (l .state) x }
+
+unfoldable pub lentSteps : Lent → List Parsed → Lent
+lentSteps l [] = l
+lentSteps l (x ∷ xs) = lentSteps (lentStep l x) xs
+
+unfoldable pub lentEnd : Lent → Lent
+lentEnd l = record { field = l .field; state = endOf (l .state) }
+
+unfoldable pub lentReport : Lent → Report
+lentReport l = reportOf (l .state)
+
+unfoldable pub lentAnswer : Lent → Report
+lentAnswer l = answerOf (l .state)

@@ -1,4 +1,6 @@
 // The types that the definitions of document 01 and the code share. There is no code here: definitions and statements are in specs/, proofs in proofs/.
+use field::moduli::Modulus;
+
 pub mod names;
 pub mod numbers;
 
@@ -43,20 +45,20 @@ pub enum Phase {
 // A row, in the columns `op,guard,addr,value,old,time,version`.
 pub struct Row {
     pub op: Op,
-    pub guard: u32,
-    pub addr: u32,
-    pub value: u32,
-    pub old: u32,
-    pub time: u32,
-    pub version: u32,
+    pub guard: u64,
+    pub addr: u64,
+    pub value: u64,
+    pub old: u64,
+    pub time: u64,
+    pub version: u64,
 }
 
 // "A challenge is four elements r, a, b, c."
 pub struct Challenge {
-    pub r: u32,
-    pub a: u32,
-    pub b: u32,
-    pub c: u32,
+    pub r: u64,
+    pub a: u64,
+    pub b: u64,
+    pub c: u64,
 }
 
 // What a row line reads as: a row, or its fault 2 or 3.
@@ -76,7 +78,7 @@ pub struct Context {
     pub pushed: u32,
     pub popped: u32,
     // the queue's product of depth + 1 − guard
-    pub depths: u32,
+    pub depths: u64,
     pub inputs: u32,
     pub mults: u32,
     // the refusal and its line; 0 and 0 where there is none
@@ -88,12 +90,12 @@ pub struct Context {
 
 // The running products and hashes of a checker's state.
 pub struct Products {
-    pub written: u32,
-    pub read: u32,
-    pub supplied: u32,
-    pub looked: u32,
-    pub enqueued: u32,
-    pub dequeued: u32,
+    pub written: u64,
+    pub read: u64,
+    pub supplied: u64,
+    pub looked: u64,
+    pub enqueued: u64,
+    pub dequeued: u64,
 }
 
 pub struct State {
@@ -102,12 +104,18 @@ pub struct State {
     pub products: Products,
 }
 
+// A state and the modulus that it computes with: what is lent to a checker.
+pub struct Lent {
+    pub field: Modulus,
+    pub state: State,
+}
+
 // What a check prints: answer, line, inputs, multiplications.
 pub struct Report {
-    pub answer: u32,
-    pub line: u32,
-    pub inputs: u32,
-    pub mults: u32,
+    pub answer: u64,
+    pub line: u64,
+    pub inputs: u64,
+    pub mults: u64,
 }
 
 // What the lines of a checked file leave.

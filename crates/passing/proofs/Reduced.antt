@@ -5,15 +5,15 @@ use mathlib.Core.Path.{_≡_, ap}
 use native.Mathlib.Nat.{mul-one}
 use Rattle.algebra.specs.Modulo.{plus, minus, times}
 use Rattle.algebra.proofs.Modulo.{mod-difference}
-use Rattle.field.specs.Field.{p, addOf, subOf, mulOf}
+use Rattle.field.specs.Field.{addOf, subOf, mulOf}
 
 -- the queue's product after a dequeue
 pub dequeue-product :
-    (x up down g : ℕ) → mulOf x (subOf (addOf up 1) (addOf down g)) ≡ times p x (minus p (up + 1) (down + g))
+    (q x up down g : ℕ) → mulOf q x (subOf q (addOf q up 1) (addOf q down g)) ≡ times q x (minus q (up + 1) (down + g))
 unfolding mulOf subOf addOf plus
-dequeue-product x up down g = ap (times p x) (mod-difference p (up + 1) (down + g))
+dequeue-product q x up down g = ap (times q x) (mod-difference q (up + 1) (down + g))
 
 -- a product by 1 is the remainder
-pub product-by-one : (x : ℕ) → x % p ≡ times p x 1
+pub product-by-one : (q x : ℕ) → x % q ≡ times q x 1
 unfolding times
-product-by-one x = simp mul-one
+product-by-one q x = simp mul-one

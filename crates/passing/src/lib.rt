@@ -1,5 +1,5 @@
 // What a row that has passed changes of the context: counters, the queue's product of depths, gates; and the fault of a row.
-use field::Field;
+use field::moduli::Modulus;
 use memory::Context;
 use memory::Memory;
 use memory::Op;
@@ -13,7 +13,7 @@ ghost use mathlib.Core.Bool.{_&&_};
 ghost use Prim.Native.Nat.{_+_};
 ghost use lib.Dec.{eqb, leb};
 ghost use Rattle.algebra.specs.Modulo.{times};
-ghost use Rattle.field.specs.Field.{p};
+ghost use Rattle.field.specs.Moduli.{modulusOf};
 ghost use Rattle.memory.specs.Rows.{raiseBy, lowerBy, depthFactor};
 ghost use Rattle.memory.specs.Step.{pass, sinks, stepFault};
 
@@ -24,7 +24,7 @@ pub struct Judged {
 }
 
 // By how much a row raises the depth: "Push adds guard to depth", "Enqueue adds guard to depth".
-fn rises(op: Op, guard: u32) -> u32
+fn rises(op: Op, guard: u64) -> u64
     ensures { λ r. ⌜ r ≡ raiseBy op guard ⌝ }
 {
     if ops::is(op, Op::Push) | ops::is(op, Op::Enqueue) {
@@ -35,7 +35,7 @@ fn rises(op: Op, guard: u32) -> u32
 }
 
 // By how much a row lowers the depth: a pop or a dequeue subtracts guard.
-fn falls(op: Op, guard: u32) -> u32
+fn falls(op: Op, guard: u64) -> u64
     ensures { λ r. ⌜ r ≡ lowerBy op guard ⌝ }
 {
     if ops::is(op, Op::Pop) | ops::is(op, Op::Dequeue) {
@@ -46,22 +46,24 @@ fn falls(op: Op, guard: u32) -> u32
 }
 
 // The queue's product after a row: "Each dequeue multiplies a product by depth + 1 − guard".
-fn depths(c: Context, row: Row) -> u32
-    ensures { λ r. ⌜ r ≡ times p (c .depths) (depthFactor p (c .pushed) (c .popped) row) ⌝ }
+fn depths(k: Modulus, c: Context, row: Row) -> u64
+    ensures { λ r. ⌜ r ≡ times (modulusOf k) (c .depths) (depthFactor (modulusOf k) (c .pushed) (c .popped) row) ⌝ }
 {
     let op = row.op;
     if ops::is(op, Op::Dequeue) {
-        let up = Field::add(c.pushed, 1);
-        let down = Field::add(c.popped, row.guard);
-        Field::mul(c.depths, Field::sub(up, down))
+        let up = k.add(c.pushed as u64, 1);
+        let down = k.add(c.popped as u64, row.guard);
+        k.mul(c.depths, k.sub(up, down))
+    } else if c.depths < k.modulus() {
+        c.depths
     } else {
-        Field::reduce(c.depths as u64)
+        k.reduce(c.depths)
     }
 }
 
 // The context after a row.
-fn pass(c: Context, row: Row) -> Context
-    ensures { λ r. ⌜ r ≡ pass p c row ⌝ }
+fn pass(k: Modulus, c: Context, row: Row) -> Context
+    ensures { λ r. ⌜ r ≡ pass (modulusOf k) c row ⌝ }
 {
     let memory = c.memory;
     let op = row.op;
@@ -72,9 +74,9 @@ fn pass(c: Context, row: Row) -> Context
         passed: counters::raise(c.passed, 1),
         pushed: counters::raise(c.pushed, rises(op, row.guard)),
         popped: counters::raise(c.popped, falls(op, row.guard)),
-        depths: depths(c, row),
-        inputs: counters::raise(c.inputs, gates::inputs(memory, op)),
-        mults: counters::raise(c.mults, gates::mults(memory, op)),
+        depths: depths(k, c, row),
+        inputs: counters::raise(c.inputs, gates::inputs(memory, op) as u64),
+        mults: counters::raise(c.mults, gates::mults(memory, op) as u64),
         answer: c.answer,
         line: c.line,
         ended: c.ended,
@@ -103,9 +105,9 @@ fn last_operation(c: Context) -> bool
 }
 
 // The fault of the next row, or 0, where `next` is the context after it: 5, then 6, and at the last operation 8.
-fn fault(c: Context, row: Row, next: Context) -> u32
-    requires { ⌜ next ≡ pass p c row ⌝ }
-    ensures { λ r. ⌜ r ≡ stepFault p c row ⌝ }
+fn fault(k: Modulus, c: Context, row: Row, next: Context) -> u32
+    requires { ⌜ next ≡ pass (modulusOf k) c row ⌝ }
+    ensures { λ r. ⌜ r ≡ stepFault (modulusOf k) c row ⌝ }
 {
     let memory = c.memory;
     let op = row.op;
@@ -123,12 +125,12 @@ fn fault(c: Context, row: Row, next: Context) -> u32
 }
 
 // The next row: its fault, or 0, and the context after it.
-pub fn judge(c: Context, row: Row) -> Judged
-    ensures { λ r. ⌜ (r .fault ≡ stepFault p c row) × (r .next ≡ pass p c row) ⌝ }
+pub fn judge(k: Modulus, c: Context, row: Row) -> Judged
+    ensures { λ r. ⌜ (r .fault ≡ stepFault (modulusOf k) c row) × (r .next ≡ pass (modulusOf k) c row) ⌝ }
 {
-    let next = pass(c, row);
+    let next = pass(k, c, row);
     Judged {
-        fault: fault(c, row, next),
+        fault: fault(k, c, row, next),
         next,
     }
 }

@@ -35,7 +35,7 @@ fn end_line(buf: &mut [u8], prior: Put) -> Put
 }
 
 // Puts numbers, a comma before each, and a line feed after what was put before.
-fn columns(buf: &mut [u8], prior: Put, ns: &[u32]) -> Put
+fn columns(buf: &mut [u8], prior: Put, ns: &[u64]) -> Put
     ensures answer { λ r. ⌜ r ≡ putAfter (length (now (buf .entry))) prior (columnsText (now (ns .entry))) ⌝ }
     ensures slice { λ _. ⌜ now (buf .exit) ≡ writtenAfter (now (buf .entry)) prior (columnsText (now (ns .entry))) ⌝ }
 {
@@ -114,12 +114,12 @@ pub fn refusal(buf: &mut [u8], at: usize, answer: u32, place: u32) -> Put
     ensures slice { λ _. ⌜ now (buf .exit) ≡ written (now (buf .entry)) at (refusalText answer place) ⌝ }
 {
     let end = line(buf, at, &REFUSAL_NAMES);
-    let end = more_number(buf, end, answer);
-    columns(buf, end, &[place])
+    let end = more_number(buf, end, answer as u64);
+    columns(buf, end, &[place as u64])
 }
 
 // The number in a column of the row at place k of a slice of output rows, 7 numbers a row; 0 where there is none.
-fn cell(rows: &[u32], k: usize, column: usize) -> u32
+fn cell(rows: &[u64], k: usize, column: usize) -> u64
     requires { ⌜ column < 7 ⌝ }
     ensures { λ r. ⌜ r ≡ cellIn (now (rows .entry)) k column ⌝ }
 {
@@ -131,7 +131,7 @@ fn cell(rows: &[u32], k: usize, column: usize) -> u32
 }
 
 // The row at place k of a slice of output rows.
-fn row_in(rows: &[u32], k: usize) -> Row
+fn row_in(rows: &[u64], k: usize) -> Row
     ensures { λ r. ⌜ r ≡ rowIn (now (rows .entry)) k ⌝ }
 {
     let code = cell(rows, k, 0);
@@ -147,7 +147,7 @@ fn row_in(rows: &[u32], k: usize) -> Row
 }
 
 // Puts the row at place k of a slice of output rows.
-pub fn filled_row(buf: &mut [u8], at: usize, rows: &[u32], k: usize) -> Put
+pub fn filled_row(buf: &mut [u8], at: usize, rows: &[u64], k: usize) -> Put
     ensures answer { λ r. ⌜ r ≡ putOf (length (now (buf .entry))) at (rowText (rowIn (now (rows .entry)) k)) ⌝ }
     ensures slice { λ _. ⌜ now (buf .exit) ≡ written (now (buf .entry)) at (rowText (rowIn (now (rows .entry)) k)) ⌝ }
 {

@@ -5,31 +5,31 @@ use mathlib.Core.Path.{_≡_, ap}
 use native.Mathlib.Omega.{arith}
 use Rattle.algebra.specs.Modulo.{Same, minus}
 use Rattle.algebra.proofs.Modulo.{same-refl, same-mod, same-add, same-mul, minus-same}
-use Rattle.field.specs.Field.{p, pairOf}
+use Rattle.field.specs.Field.{pairOf}
 use Rattle.memory.specs.declared.Challenge.{Challenge}
 use Rattle.memory.specs.Equations.{triple, pair, factor}
 
 -- a difference from a remainder
-pub minus-reduced : (x y : ℕ) → minus p (x % p) y ≡ minus p x y
-minus-reduced x y = minus-same (same-mod p x) same-refl
+pub minus-reduced : (q x y : ℕ) → minus q (x % q) y ≡ minus q x y
+minus-reduced q x y = minus-same (same-mod q x) same-refl
 
 -- the factor of a record depends on its remainders alone
 factor-same :
-    (ch : Challenge) {x x' : ℕ} (y : ℕ) {z z' : ℕ} → Same p x x' → Same p z z' → factor p ch (triple x y z) ≡ factor p ch (triple x' y z')
+    {q : ℕ} (ch : Challenge) {x x' : ℕ} (y : ℕ) {z z' : ℕ} → Same q x x' → Same q z z' → factor q ch (triple x y z) ≡ factor q ch (triple x' y z')
 unfolding factor triple
 factor-same ch y sx sz = minus-same same-refl (same-add (same-add (same-mul same-refl sx) same-refl) (same-mul same-refl sz))
 
-pub factor-first-reduced : (ch : Challenge) (x y z : ℕ) → factor p ch (triple (x % p) y z) ≡ factor p ch (triple x y z)
-factor-first-reduced ch x y z = factor-same ch y (same-mod p x) same-refl
+pub factor-first-reduced : (q : ℕ) (ch : Challenge) (x y z : ℕ) → factor q ch (triple (x % q) y z) ≡ factor q ch (triple x y z)
+factor-first-reduced q ch x y z = factor-same ch y (same-mod q x) same-refl
 
-pub factor-last-reduced : (ch : Challenge) (x y z : ℕ) → factor p ch (triple x y (z % p)) ≡ factor p ch (triple x y z)
-factor-last-reduced ch x y z = factor-same ch y same-refl (same-mod p z)
+pub factor-last-reduced : (q : ℕ) (ch : Challenge) (x y z : ℕ) → factor q ch (triple x y (z % q)) ≡ factor q ch (triple x y z)
+factor-last-reduced q ch x y z = factor-same ch y same-refl (same-mod q z)
 
-pub pair-first-reduced : (ch : Challenge) (x y : ℕ) → factor p ch (pair (x % p) y) ≡ factor p ch (pair x y)
+pub pair-first-reduced : (q : ℕ) (ch : Challenge) (x y : ℕ) → factor q ch (pair (x % q) y) ≡ factor q ch (pair x y)
 unfolding pair
-pair-first-reduced ch x y = factor-first-reduced ch x y 0
+pair-first-reduced q ch x y = factor-first-reduced q ch x y 0
 
 -- the factor of a pair
-pub pair-factor : (ch : Challenge) (x y : ℕ) → pairOf (ch .r) (ch .a) (ch .b) x y ≡ factor p ch (pair x y)
+pub pair-factor : (q : ℕ) (ch : Challenge) (x y : ℕ) → pairOf q (ch .r) (ch .a) (ch .b) x y ≡ factor q ch (pair x y)
 unfolding pairOf factor pair triple
-pair-factor ch x y = ap (λ (t : ℕ). minus p (ch .r) t) (omega arith)
+pair-factor q ch x y = ap (λ (t : ℕ). minus q (ch .r) t) (omega arith)

@@ -1,11 +1,13 @@
 // The ages that the range holds.
-use field::Field;
+use field::moduli::Modulus;
 ghost use mathlib.Core.Path.{_≡_};
 ghost use Rattle.field.specs.Field.{subOf};
+ghost use Rattle.field.specs.Moduli.{modulusOf};
 
-// "looks up clock − time", modulo p: a time from the clock up to T has the age 0 or an age above T.
-pub fn age(clock: u32, time: u32) -> u32
-    ensures { λ r. ⌜ r ≡ subOf clock time ⌝ }
+// "looks up clock − time", modulo the modulus: a time from the clock up to T has the age 0 or an
+// age above T.
+pub fn age(k: Modulus, clock: u64, time: u64) -> u64
+    ensures { λ r. ⌜ r ≡ subOf (modulusOf k) clock time ⌝ }
 {
-    Field::sub(clock, time)
+    k.sub(clock, time)
 }

@@ -55,7 +55,7 @@ fn of(memory: Memory, op: Op) -> Used
 }
 
 // "Other columns hold 0."
-fn fits(used: bool, x: u32) -> bool
+fn fits(used: bool, x: u64) -> bool
     ensures { λ r. ⌜ r ≡ usedOrZero used x ⌝ }
 {
     used | (x == 0)

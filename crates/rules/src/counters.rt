@@ -3,8 +3,12 @@ ghost use mathlib.Core.Path.{_≡_};
 ghost use Rattle.memory.specs.Step.{raise};
 
 // x + k, and at most the largest number of a counter.
-pub fn raise(x: u32, k: u32) -> u32
+pub fn raise(x: u32, k: u64) -> u32
     ensures { λ r. ⌜ r ≡ raise x k ⌝ }
 {
-    if k <= u32::MAX - x { x + k } else { u32::MAX }
+    if k <= (u32::MAX - x) as u64 {
+        x + k as u32
+    } else {
+        u32::MAX
+    }
 }

@@ -4,7 +4,7 @@ ghost use mathlib.Core.Path.{_≡_};
 ghost use Rattle.memory.specs.Names.{opCode, isOp, opCoded};
 
 // The number of an op in the slices of the filler's library.
-pub fn code(op: Op) -> u32
+pub fn code(op: Op) -> u64
     ensures { λ r. ⌜ r ≡ opCode op ⌝ }
 {
     match op {
@@ -23,7 +23,7 @@ pub fn code(op: Op) -> u32
 }
 
 // The op that a number stands for.
-pub fn coded(code: u32) -> Op
+pub fn coded(code: u64) -> Op
     ensures { λ r. ⌜ r ≡ opCoded code ⌝ }
 {
     match code {

@@ -1,4 +1,5 @@
 // One whole line of a file: line 1, the value line, line 3, and the rows.
+use field::moduli::Modulus;
 use lines::Named;
 use lines::Opened;
 use memory::Challenge;
@@ -8,7 +9,7 @@ use memory::Stand;
 use memory::State;
 ghost use mathlib.Core.Path.{_≡_};
 ghost use Prim.Native.Nat.{_<_};
-ghost use Rattle.field.specs.Field.{p};
+ghost use Rattle.field.specs.Moduli.{modulusOf};
 ghost use Rattle.memory.specs.File.{firstLine, parseValues};
 ghost use Rattle.memory.specs.Step.{refusedState, openedOf};
 ghost use Rattle.memory.specs.Stream.{rowNamesRead, lineOf};
@@ -24,7 +25,7 @@ pub fn refused(answer: u32, line: u32) -> State
         b: 0,
         c: 0,
     };
-    let mut state = checker::fresh(Memory::Ram, 0, 0, none);
+    let mut state = checker::fresh(Modulus::M31, Memory::Ram, 0, 0, none);
     state.context.answer = answer;
     state.context.line = line;
     state
@@ -58,10 +59,10 @@ fn shut_number(opened: Opened) -> u32
 }
 
 // The state that the value line makes: fresh, or refused with its number on line 2.
-fn opened(text: &[u8], ended: bool) -> State
-    ensures { λ r. ⌜ r ≡ openedOf p (parseValues p (record { text = now (text .entry); ended = ended })) ⌝ }
+fn opened(k: Modulus, text: &[u8], ended: bool) -> State
+    ensures { λ r. ⌜ r ≡ openedOf (modulusOf k) (parseValues (modulusOf k) (record { text = now (text .entry); ended = ended })) ⌝ }
 {
-    let read = lines::value_line(text, ended);
+    let read = lines::value_line(k, text, ended);
     let Opened::Opens {
         memory,
         size,
@@ -71,7 +72,7 @@ fn opened(text: &[u8], ended: bool) -> State
     else {
         return refused(shut_number(read), 2);
     };
-    checker::fresh(memory, size, count, challenge)
+    checker::fresh(k, memory, size, count, challenge)
 }
 
 // Line 3: where the value line was refused, the file keeps that answer.
@@ -88,20 +89,20 @@ fn row_names(state: State, text: &[u8], ended: bool) -> Stand
 }
 
 // Any line.
-pub fn line(stand: Stand, text: &[u8], ended: bool) -> Stand
-    ensures { λ r. ⌜ r ≡ lineOf p stand (record { text = now (text .entry); ended = ended }) ⌝ }
+pub fn line(k: Modulus, stand: Stand, text: &[u8], ended: bool) -> Stand
+    ensures { λ r. ⌜ r ≡ lineOf (modulusOf k) stand (record { text = now (text .entry); ended = ended }) ⌝ }
 {
     let place = stand.place;
     match place {
         1 => named(1, stand.state, lines::value_names_line(text, ended)),
         2 => Stand {
             place: 3,
-            state: opened(text, ended),
+            state: opened(k, text, ended),
         },
         3 => row_names(stand.state, text, ended),
         _ => Stand {
             place: FIRST_LINE,
-            state: checker::step(stand.state, lines::row_line(text, ended)),
+            state: checker::step(k, stand.state, lines::row_line(k, text, ended)),
         },
     }
 }

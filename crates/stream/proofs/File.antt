@@ -1,12 +1,13 @@
 -- A whole file, read in pieces and at once, gives what the whole-file definition says.
 -- Assumes nothing.
-use Prim.Native.Nat.{ℕ, _≤_}
+use Prim.Native.Nat.{ℕ}
 use mathlib.Core.Path.{_≡_, sym, _∙_, ap}
 use mathlib.Core.List.{List}
 use native.Mathlib.Omega.{arith}
-use lib.Dec.{lit≤}
 use lib.ListN.{drop}
-use Rattle.field.specs.Field.{p}
+use Rattle.field.specs.declared.moduli.Modulus.{Modulus}
+use Rattle.field.specs.Moduli.{modulusOf}
+use Rattle.field.proofs.Variants.{modulus-two}
 use Rattle.memory.specs.declared.Stand.{Stand}
 use Rattle.memory.specs.File.{fileReport}
 use Rattle.memory.specs.Pieces.{piece, endIn}
@@ -24,32 +25,31 @@ use Rattle.stream.specs.Progress.{begun, leftBy}
 use Rattle.text.proofs.Written.{put-text, put-whole}
 use Rattle.stream.specs.Statements.{PiecesAreFile, PiecesArePrinted}
 
--- the modulus is 2 or more
-modulus-above-one : 2 ≤ p
-unfolding p
-modulus-above-one = lit≤ tt
-
 -- in pieces
 pub pieces-are-file : PiecesAreFile
 unfolding leftBy begun unread started
-pieces-are-file buffer calls h =
-    ap (finishOf p) (calls-read Stand (lineOf p) unopened buffer calls h) ∙ stream-is-file p (joined calls) modulus-above-one
+pieces-are-file k buffer calls h =
+    let q = modulusOf k in
+    ap (finishOf q) (calls-read Stand (lineOf q) unopened buffer calls h) ∙ stream-is-file q (joined calls) (modulus-two k)
 
 -- and printed
 pub pieces-are-printed : PiecesArePrinted
-pieces-are-printed buffer calls h text printed r room put slice =
-    let same = ap reportText (pieces-are-file buffer calls h) in
+pieces-are-printed k buffer calls h text printed r room put slice =
+    let same = ap reportText (pieces-are-file k buffer calls h) in
+    let report = fileReport (modulusOf k) (joined calls) in
     let all = put-text text 0 same (put, slice) in
     let whole =
-    put-whole text (reportText (fileReport p (joined calls))) (omega (arith, report-short (fileReport p (joined calls)), room)) all in
+    put-whole text (reportText report) (omega (arith, report-short report, room)) all in
     record { answer = whole .0; bytes = whole .1 }
 
 -- at once: its whole lines, and its last line if that is not ended
-pub whole-file : (file : List ℕ) (start : Progress) → start ≡ begun → (r : Stand) (used : ℕ) → LinesTaken (lineOf p) (start .stand) file r used
-    → finishOf p (piece r (drop used file)) ≡ fileReport p file
+pub whole-file : (k : Modulus) (file : List ℕ) (start : Progress) → start ≡ begun k → (r : Stand) (used : ℕ)
+    → LinesTaken (lineOf (modulusOf k)) (start .stand) file r used
+    → finishOf (modulusOf k) (piece r (drop used file)) ≡ fileReport (modulusOf k) file
 unfolding begun unread finishOf endIn piece
-whole-file file start e r used t =
-    let taken : LinesTaken (lineOf p) unopened file r used = rw e at t in
-    ap endReport (sym (last-cut (lineOf p) (cut-line p) r (drop used file)))
-    ∙ ap (finishOf p) (sym (block-read (lineOf p) (cut-line p) unopened r file used (taken .lines) (taken .rest)))
-    ∙ stream-is-file p file modulus-above-one
+whole-file k file start e r used t =
+    let q = modulusOf k in
+    let taken : LinesTaken (lineOf q) unopened file r used = rw e at t in
+    ap endReport (sym (last-cut (lineOf q) (cut-line q) r (drop used file)))
+    ∙ ap (finishOf q) (sym (block-read (lineOf q) (cut-line q) unopened r file used (taken .lines) (taken .rest)))
+    ∙ stream-is-file q file (modulus-two k)

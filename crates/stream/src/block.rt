@@ -1,6 +1,7 @@
 // The lines that lie whole in a block.
+use field::moduli::Modulus;
 use memory::Stand;
-ghost use Rattle.field.specs.Field.{p};
+ghost use Rattle.field.specs.Moduli.{modulusOf};
 ghost use Rattle.memory.specs.Stream.{lineOf};
 ghost use Rattle.pieces.specs.Block.{LinesTaken};
 
@@ -11,13 +12,13 @@ pub struct Taken {
 }
 
 // Every whole line of a block, each as a part of the block.
-pub fn lines_in(mut stand: Stand, block: &[u8]) -> Taken
-    ensures { λ r. ⌜ LinesTaken (lineOf p) stand (now (block .entry)) (r .stand) (r .used) ⌝ }
+pub fn lines_in(k: Modulus, mut stand: Stand, block: &[u8]) -> Taken
+    ensures { λ r. ⌜ LinesTaken (lineOf (modulusOf k)) stand (now (block .entry)) (r .stand) (r .used) ⌝ }
 {
     let mut used = 0;
     let mut at = pieces::feed_from(block, used);
     while at < block.len() {
-        stand = stands::line(stand, &block[used..at], true);
+        stand = stands::line(k, stand, &block[used..at], true);
         used = at + 1;
         at = pieces::feed_from(block, used);
     }

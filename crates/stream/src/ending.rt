@@ -1,10 +1,11 @@
 // The end of input: the last line where it is not ended, and what is printed.
+use field::moduli::Modulus;
 use memory::Report;
 use memory::Stand;
 use memory::State;
 use memory::numbers;
 ghost use mathlib.Core.Path.{_≡_};
-ghost use Rattle.field.specs.Field.{p};
+ghost use Rattle.field.specs.Moduli.{modulusOf};
 ghost use Rattle.memory.specs.Pieces.{piece};
 ghost use Rattle.memory.specs.Step.{reportOf};
 ghost use Rattle.memory.specs.Stream.{endReport, finishOf};
@@ -30,11 +31,11 @@ fn ended(stand: Stand) -> State
 }
 
 // What is printed where the input ends after some bytes of a line: a line without its line feed is a line all the same.
-pub fn report(stand: Stand, rest: &[u8]) -> Report
-    ensures { λ r. ⌜ r ≡ finishOf p (piece stand (now (rest .entry))) ⌝ }
+pub fn report(k: Modulus, stand: Stand, rest: &[u8]) -> Report
+    ensures { λ r. ⌜ r ≡ finishOf (modulusOf k) (piece stand (now (rest .entry))) ⌝ }
 {
     if rest.len() == 0 {
         return checker::report(ended(stand));
     }
-    checker::report(ended(stands::line(stand, rest, false)))
+    checker::report(ended(stands::line(k, stand, rest, false)))
 }

@@ -19,19 +19,19 @@ drop-set l i v h =
 
 -- What stands in the array after the digits behind `first`: `left` is still to come, and has at most first + 1 digits.
 pub record Laid (n : ℕ) (digits : List ℕ) (first left : ℕ) : Type 0 where
-  pub size : length digits ≡ 10
-  pub inside : first ≤ 9
+  pub size : length digits ≡ 20
+  pub inside : first ≤ 19
   pub small : left < 10 ^ (first + 1)
-  pub text : digitsOnto (first + 11) left (drop (first + 1) digits) ≡ numberText n
+  pub text : digitsOnto (first + 1) left (drop (first + 1) digits) ≡ numberText n
 
 -- at the start nothing stands there
-pub laid-none : (n : ℕ) (digits : List ℕ) → length digits ≡ 10 → n < 2 ^ 32 → Laid n digits 9 n
+pub laid-none : (n : ℕ) (digits : List ℕ) → length digits ≡ 20 → n < 2 ^ 64 → Laid n digits 19 n
 unfolding numberText
 laid-none n digits e h = record {
   size = e;
   inside = omega arith;
   small = omega arith;
-  text = ap (digitsOnto 20 n) (drop-of-length-le digits {i = 10} (omega arith));
+  text = ap (digitsOnto 20 n) (drop-of-length-le digits {i = 20} (omega arith));
 }
 
 -- a number of one digit is below 10
@@ -49,7 +49,6 @@ pub laid-more : {n : ℕ} {digits : List ℕ} {first left : ℕ} → Laid n digi
 laid-more {n} {digits} {first} {left} l h =
     let room : 1 ≤ first = laid-room l h in
     let next : first - 1 + 1 ≡ first = omega arith in
-    let fewer : first - 1 + 11 ≡ first + 10 = omega arith in
     let power : 10 ^ (first + 1) ≡ 10 ^ first * 10 = ap (λ (k : ℕ). 10 ^ k) (add-one first) ∙ pow-suc 10 first in
     let below : left / 10 < 10 ^ first = omega (arith, l .small) in
     let laid : drop (first - 1 + 1) (set digits first (48 + left % 10)) ≡ (48 + left % 10) ∷ drop (first + 1) digits =
@@ -60,8 +59,8 @@ laid-more {n} {digits} {first} {left} l h =
       inside = omega (arith, l .inside);
       small = rw next below;
       text =
-          ap₂ (λ (k : ℕ) (r : List ℕ). digitsOnto k (left / 10) r) fewer laid
-          ∙ sym (digit-more (first + 10) left (drop (first + 1) digits) (omega arith))
+          ap₂ (λ (k : ℕ) (r : List ℕ). digitsOnto k (left / 10) r) next laid
+          ∙ sym (digit-more first left (drop (first + 1) digits) (omega arith))
           ∙ ap (λ (k : ℕ). digitsOnto k left (drop (first + 1) digits)) (omega arith)
           ∙ l .text;
     }
@@ -71,6 +70,6 @@ pub laid-last : {n : ℕ} {digits : List ℕ} {first left : ℕ} → Laid n digi
     → drop first (set digits first (48 + left)) ≡ numberText n
 laid-last {n} {digits} {first} {left} l h =
     drop-set digits first (48 + left) (omega arith)
-    ∙ sym (digit-last (first + 10) left (drop (first + 1) digits) (omega arith))
+    ∙ sym (digit-last first left (drop (first + 1) digits) (omega arith))
     ∙ ap (λ (k : ℕ). digitsOnto k left (drop (first + 1) digits)) (omega arith)
     ∙ l .text

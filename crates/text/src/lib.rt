@@ -5,10 +5,10 @@ ghost use lib.ListN.{length};
 ghost use Rattle.memory.specs.Print.{numberText};
 ghost use Rattle.text.specs.Put.{putOf, putAfter, written, writtenAfter};
 
-// The byte of the digit 0, and the most digits of a u32.
+// The byte of the digit 0, and the most digits of a u64.
 const ZERO: u8 = 48;
 
-const MOST: usize = 10;
+const MOST: usize = 20;
 
 // The position after what was put, or that it did not fit.
 pub enum Put {
@@ -49,7 +49,7 @@ pub fn more(buf: &mut [u8], prior: Put, text: &[u8]) -> Put
 }
 
 // Puts a number in decimal, without leading zeros.
-pub fn number(buf: &mut [u8], at: usize, n: u32) -> Put
+pub fn number(buf: &mut [u8], at: usize, n: u64) -> Put
     ensures answer { λ r. ⌜ r ≡ putOf (length (now (buf .entry))) at (numberText n) ⌝ }
     ensures slice { λ _. ⌜ now (buf .exit) ≡ written (now (buf .entry)) at (numberText n) ⌝ }
 {
@@ -66,7 +66,7 @@ pub fn number(buf: &mut [u8], at: usize, n: u32) -> Put
 }
 
 // Puts a number after what was put before.
-pub fn more_number(buf: &mut [u8], prior: Put, n: u32) -> Put
+pub fn more_number(buf: &mut [u8], prior: Put, n: u64) -> Put
     ensures answer { λ r. ⌜ r ≡ putAfter (length (now (buf .entry))) prior (numberText n) ⌝ }
     ensures slice { λ _. ⌜ now (buf .exit) ≡ writtenAfter (now (buf .entry)) prior (numberText n) ⌝ }
 {

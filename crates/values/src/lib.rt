@@ -1,33 +1,32 @@
-// 3 and 4 of the numbers: whether six numbers are below p, and the fault of a value line's values.
-use field::Field;
+// 3 and 4 of the numbers: whether six numbers are below the modulus, and the fault of a value
+// line's values.
+use field::moduli::Modulus;
 use memory::Challenge;
 use memory::Memory;
 use memory::numbers;
 use rules::sizes;
 ghost use mathlib.Core.Path.{_≡_};
 ghost use mathlib.Core.List.{[], _∷_};
-ghost use Rattle.field.specs.Field.{p};
+ghost use Rattle.field.specs.Moduli.{modulusOf};
 ghost use Rattle.memory.specs.Bytes.{allBelow};
 ghost use Rattle.memory.specs.File.{valuesFault};
 
 // Not 3: "a number is p or more", of six numbers: those of a value line, or those of a row.
-pub fn below(u: u32, v: u32, w: u32, x: u32, y: u32, z: u32) -> bool
-    ensures { λ r. ⌜ r ≡ allBelow p (u ∷ v ∷ w ∷ x ∷ y ∷ z ∷ []) ⌝ }
+pub fn below(k: Modulus, u: u64, v: u64, w: u64, x: u64, y: u64, z: u64) -> bool
+    ensures { λ r. ⌜ r ≡ allBelow (modulusOf k) (u ∷ v ∷ w ∷ x ∷ y ∷ z ∷ []) ⌝ }
 {
-    (u < Field::MODULUS)
-        & ((v < Field::MODULUS)
-            & ((w < Field::MODULUS)
-                & ((x < Field::MODULUS) & ((y < Field::MODULUS) & (z < Field::MODULUS)))))
+    let p = k.modulus();
+    (u < p) & ((v < p) & ((w < p) & ((x < p) & ((y < p) & (z < p)))))
 }
 
 // The fault, or 0.
-pub fn fault(memory: Memory, size: u32, count: u32, ch: Challenge) -> u32
-    ensures { λ r. ⌜ r ≡ valuesFault p memory size count ch ⌝ }
+pub fn fault(k: Modulus, memory: Memory, size: u32, count: u32, ch: Challenge) -> u32
+    ensures { λ r. ⌜ r ≡ valuesFault (modulusOf k) memory size count ch ⌝ }
 {
-    if !below(size, count, ch.r, ch.a, ch.b, ch.c) {
+    if !below(k, size as u64, count as u64, ch.r, ch.a, ch.b, ch.c) {
         return numbers::TOO_LARGE;
     }
-    if sizes::allowed(memory, size, count) {
+    if sizes::allowed(memory, size as u64, count as u64) {
         0
     } else {
         numbers::NOT_ALLOWED

@@ -8,7 +8,7 @@ ghost use lib.Seq.{sets};
 ghost use Rattle.words.specs.Inputs.{wordsAt};
 
 // Every word becomes 0.
-pub fn clear(words: &mut [u32])
+pub fn clear(words: &mut [u64])
     ensures { λ _. ⌜ now (words .exit) ≡ replicate (length (now (words .entry))) 0 ⌝ }
 {
     let mut i = 0;
@@ -19,7 +19,7 @@ pub fn clear(words: &mut [u32])
 }
 
 // Every word of both becomes 0: "whole output and scratch 0".
-pub fn clear_both(out: &mut [u32], scratch: &mut [u32])
+pub fn clear_both(out: &mut [u64], scratch: &mut [u64])
     ensures output { λ _. ⌜ now (out .exit) ≡ replicate (length (now (out .entry))) 0 ⌝ }
     ensures scratch { λ _. ⌜ now (scratch .exit) ≡ replicate (length (now (scratch .entry))) 0 ⌝ }
 {
@@ -28,14 +28,14 @@ pub fn clear_both(out: &mut [u32], scratch: &mut [u32])
 }
 
 // The word at a place.
-pub fn word(words: &[u32], at: usize) -> u32
+pub fn word(words: &[u64], at: usize) -> u64
     ensures { λ r. ⌜ r ≡ getD (now (words .entry)) at 0 ⌝ }
 {
     if at < words.len() { words[at] } else { 0 }
 }
 
 // Writes a word at a place.
-pub fn store(words: &mut [u32], at: usize, word: u32)
+pub fn store(words: &mut [u64], at: usize, word: u64)
     ensures { λ _. ⌜ now (words .exit) ≡ set (now (words .entry)) at word ⌝ }
 {
     if at < words.len() {
@@ -45,14 +45,14 @@ pub fn store(words: &mut [u32], at: usize, word: u32)
 
 // The words of an input row, in the columns `op,guard,addr,value`.
 pub struct Input {
-    pub op: u32,
-    pub guard: u32,
-    pub addr: u32,
-    pub value: u32,
+    pub op: u64,
+    pub guard: u64,
+    pub addr: u64,
+    pub value: u64,
 }
 
 // An input row that the slice ends in or before.
-fn cut_row(rows: &[u32], k: usize) -> Input
+fn cut_row(rows: &[u64], k: usize) -> Input
     ensures { λ r. ⌜ r ≡ wordsAt (now (rows .entry)) k ⌝ }
 {
     if rows.len() <= k {
@@ -73,7 +73,7 @@ fn cut_row(rows: &[u32], k: usize) -> Input
 }
 
 // Reads input row k. A whole row takes one test.
-pub fn read(rows: &[u32], k: usize) -> Input
+pub fn read(rows: &[u64], k: usize) -> Input
     ensures { λ r. ⌜ r ≡ wordsAt (now (rows .entry)) k ⌝ }
 {
     if k < rows.len() / 4 {
@@ -89,7 +89,7 @@ pub fn read(rows: &[u32], k: usize) -> Input
 }
 
 // "Op, guard, addr and value are copied": the first four words of an output row, from a place on.
-fn put_input(at: usize, row: Input, out: &mut [u32])
+fn put_input(at: usize, row: Input, out: &mut [u64])
     requires { ⌜ at ≤ 7 * length (now out) ⌝ }
     ensures { λ _. ⌜ now (out .exit) ≡ sets (now (out .entry)) at (row .op ∷ row .guard ∷ row .addr ∷ row .value ∷ []) ⌝ }
 {
@@ -100,7 +100,7 @@ fn put_input(at: usize, row: Input, out: &mut [u32])
 }
 
 // The advice: the last three words of an output row, from a place on.
-fn put_advice(at: usize, old: u32, time: u32, version: u32, out: &mut [u32])
+fn put_advice(at: usize, old: u64, time: u64, version: u64, out: &mut [u64])
     requires { ⌜ at ≤ 7 * length (now out) ⌝ }
     ensures { λ _. ⌜ now (out .exit) ≡ sets (now (out .entry)) at (old ∷ time ∷ version ∷ []) ⌝ }
 {
@@ -110,7 +110,7 @@ fn put_advice(at: usize, old: u32, time: u32, version: u32, out: &mut [u32])
 }
 
 // Writes output row k: an input row, and the advice that it gets.
-pub fn put(k: usize, row: Input, old: u32, time: u32, version: u32, out: &mut [u32])
+pub fn put(k: usize, row: Input, old: u64, time: u64, version: u64, out: &mut [u64])
     ensures { λ _. ⌜ now (out .exit) ≡ sets (now (out .entry)) (7 * k) (row .op ∷ row .guard ∷ row .addr ∷ row .value ∷ old ∷ time ∷ version ∷ []) ⌝ }
 {
     if out.len() <= k {

@@ -37,32 +37,31 @@ use denote.Triple.Spec.{Meets, tripleOf}
 use denote.Triple.Table.{entered, cited}
 use denote.Triple.Clauses.{ensured, lasts}
 use denote.Triple.Walked.{says, Stays, stay-ref, stay-none, walkOf, AllGo, goes-ref, goes-none, Walks, ends-at, walked, walk-meets}
-use Rattle.field.specs.Field.{p}
-use Rattle.memory.specs.declared.State.{State}
+use Rattle.memory.specs.declared.Lent.{Lent}
 use Rattle.memory.specs.declared.Report.{Report}
 use Rattle.memory.specs.declared.Parsed.{Parsed}
-use Rattle.memory.specs.Step.{stepOf, answerOf}
-use Rattle.memory.proofs.State as T
-use Rattle.memory.proofs.State.Laws as T′
+use Rattle.memory.specs.Step.{lentStep, lentAnswer}
+use Rattle.memory.proofs.Lent as T
+use Rattle.memory.proofs.Lent.Laws as T′
 use Rattle.memory.proofs.Report as R
 use Rattle.memory.proofs.Report.Laws as R′
 use Rattle.memory.proofs.Parsed as P
 use Rattle.memory.proofs.Parsed.Laws as P′
-use Rattle.checker.proofs.step as step
-use Rattle.checker.proofs.step.Symbol as step-def
-use Rattle.checker.proofs.step.Symbol.{name as #checker·step}
-use Rattle.checker.proofs.step.Met as step-thm
-use Rattle.checker.proofs.answer.Symbol as answer-def
-use Rattle.checker.proofs.answer.Symbol.{name as #checker·answer}
-use Rattle.checker.proofs.answer.Met as answer-thm
-use Rattle.checker.proofs.Lent.{val, Answers, copies, answers}
+use Rattle.checker.proofs.lent_step as step
+use Rattle.checker.proofs.lent_step.Symbol as step-def
+use Rattle.checker.proofs.lent_step.Symbol.{name as #checker·lent-step}
+use Rattle.checker.proofs.lent_step.Met as step-thm
+use Rattle.checker.proofs.lent_answer.Symbol as answer-def
+use Rattle.checker.proofs.lent_answer.Symbol.{name as #checker·lent-answer}
+use Rattle.checker.proofs.lent_answer.Met as answer-thm
+use Rattle.checker.proofs.Loans.{val, Answers, copies, answers}
 use Rattle.checker.proofs.row_in_place.Key.{name as #checker·row-in-place}
 use Rattle.checker.proofs.row_in_place as in-place
 use Rattle.checker.proofs.row_in_place.Statement as stated
 use Rattle.checker.proofs.row_in_place.Code as code
 
 abbrev Arg : Type 0
-Arg = RefT State × (Parsed × Unit {0})
+Arg = RefT Lent × (Parsed × Unit {0})
 
 abbrev stayed : Stays (in-place.ended .signature .params) (in-place.ended .kept)
 stayed = (stay-ref (0 ∷ []) tt (plain (λ _. T.the-row)), (stay-none (λ _. P.the-row) yes, tt))
@@ -77,10 +76,10 @@ module _ {M : Type 1} (𝓤 : URA M) (H : Heap 𝓤) (A : Atoms 𝓤) (at-mem : 
   Step = tripleOf 𝓤 H A step.signature (step.spec 𝓤 H A at-mem run)
 
   -- of `step`'s `ensured`, the clause alone
-  stepped-of : (s : State) (y : Parsed) (r : State) → ent 𝓤 (ensured 𝓤 H A step.ended (step.clauses 𝓤 H A at-mem run) tt (s, (y, tt)) tt r) (fact 𝓤 (r ≡ stepOf p s y))
-  stepped-of s y r = exE 𝓤 _ (λ ws. snd∗ 𝓤 (sem 𝓤 H A (lasts step.ended tt (s, (y, tt)) ws)) (fact 𝓤 (r ≡ stepOf p s y)))
+  stepped-of : (s : Lent) (y : Parsed) (r : Lent) → ent 𝓤 (ensured 𝓤 H A step.ended (step.clauses 𝓤 H A at-mem run) tt (s, (y, tt)) tt r) (fact 𝓤 (r ≡ lentStep s y))
+  stepped-of s y r = exE 𝓤 _ (λ ws. snd∗ 𝓤 (sem 𝓤 H A (lasts step.ended tt (s, (y, tt)) ws)) (fact 𝓤 (r ≡ lentStep s y)))
 
-module _ {M : Type 1} (𝓤 : URA M) (H : Heap 𝓤) (A : Atoms 𝓤) (W : Given 𝓤 H A) (at-mem : Memory → SProp 𝓤) (run : Routine → Fun 𝓤) (κ : Lft) (q : Share) (b o : ℕ) (γ : GName) (h : State) (y : Parsed) where
+module _ {M : Type 1} (𝓤 : URA M) (H : Heap 𝓤) (A : Atoms 𝓤) (W : Given 𝓤 H A) (at-mem : Memory → SProp 𝓤) (run : Routine → Fun 𝓤) (κ : Lft) (q : Share) (b o : ℕ) (γ : GName) (h : Lent) (y : Parsed) where
   abbrev x : Arg
   x = (record { ptr = (b, o); name = γ; now = h }, (y, tt))
 
@@ -90,7 +89,7 @@ module _ {M : Type 1} (𝓤 : URA M) (H : Heap 𝓤) (A : Atoms 𝓤) (W : Given
   abbrev Post : Val → SProp 𝓤
   Post = walkOf 𝓤 H A in-place.ended stayed (in-place.clauses 𝓤 H A at-mem run) .post (((κ, tt), (q, tt), tt, x, at), tt)
 
-  exits : Is P.the-row y (line y ∷ []) → (r : State) (a : Report) (m : Val) → Is R.the-row a (m ∷ []) → (r ≡ stepOf p h y) × (a ≡ answerOf (stepOf p h y))
+  exits : Is P.the-row y (line y ∷ []) → (r : Lent) (a : Report) (m : Val) → Is R.the-row a (m ∷ []) → (r ≡ lentStep h y) × (a ≡ lentAnswer (lentStep h y))
       → ent 𝓤 (sep 𝓤 (A .obs γ (T.the-row .coded .code r)) (sep 𝓤 (A .bor κ (Body (mem T.the-row) b o γ)) (A .lft κ q))) (Post m)
   exits gy r a m is e =
       qed W (‵ (fobs γ (T.the-row .coded .code r)) ∷ ‵ (fbor κ (Body (mem T.the-row) b o γ)) ∷ ‵ (flft κ q) ∷ []) ∵
@@ -105,7 +104,7 @@ module _ {M : Type 1} (𝓤 : URA M) (H : Heap 𝓤) (A : Atoms 𝓤) (W : Given
   goes-step =
       qed W (‵ (T.the-row .own h (val h ∷ [])) ∷ ‵ (P.the-row .own y (line y ∷ [])) ∷ []) ∵ nothing ! $ move ! (2 ∷ 0 ∷ []) $ join ! $ move ! (1 ∷ 0 ∷ []) $ join ! $ nothing ! $ join ! $ frame ! $ done !
 
-  module _ (C : Calls 𝓤 H) (Λ : Loops 𝓤 H) (fm : FmC 𝓤 H (W .laws) C) (known : Triple 𝓤 (C #checker·step) (Step 𝓤 H A at-mem run)) (answered : Triple 𝓤 (C #checker·answer) (Answers 𝓤 H A at-mem run)) where
+  module _ (C : Calls 𝓤 H) (Λ : Loops 𝓤 H) (fm : FmC 𝓤 H (W .laws) C) (known : Triple 𝓤 (C #checker·lent-step) (Step 𝓤 H A at-mem run)) (answered : Triple 𝓤 (C #checker·lent-answer) (Answers 𝓤 H A at-mem run)) where
     walk : ent 𝓤 (onEntry 𝓤 H A in-place.signature (κ, tt) (q, tt) x at) (WpFn 𝓤 H C Λ code.function (vptr b o ∷ line y ∷ []) Post)
     walk =
         qed W ((‵ (flft κ q) ⊛ ‵ ftrue) ∷ ‵ (owns (MutRef (named 0) κ T.the-row ∷ P.the-row ∷ []) x at) ∷ []) ∵ split ! $ move ! (2 ∷ []) $ fsplit ! $ move ! (1 ∷ []) $ fsplit ! $
@@ -118,17 +117,17 @@ module _ {M : Type 1} (𝓤 : URA M) (H : Heap 𝓤) (A : Atoms 𝓤) (W : Given
         -- [the state's cell; the open borrow; what observes it, and what holds it; _1; _4; …; room for _3; …; _2; …; _1's …; room for _0; …]
         owned ! P.the-row (Is P.the-row) (EL.makes P.the-type P′.the-plain 𝓤 H A) y _ gy $ owned ! T.the-row (Is T.the-row) (LL.makes T.the-type T′.the-plain 𝓤 H A) h _ is $ use2 W (raw (Step 𝓤 H A at-mem run .pre to-step)) goes-step $
         calls-at ! fm (Step 𝓤 H A at-mem run) known to-step (and-then ! (load ! (from ! (stop !)) (look ! 6 refl)) (and-then ! (load ! (from ! (stop !)) (look ! 10 refl)) (no-more !))) (λ v.
-        use1 W (later (some (λ (r : State). (‵ ftrue ⊛ ‵ (T.the-row .own r (v ∷ []))) ⊛ raw (ensured 𝓤 H A step.ended (step.clauses 𝓤 H A at-mem run) tt (h, (y, tt)) tt r)))) (id⊢ 𝓤 _) $ await ! tt $ pick ! (λ r.
-        split ! $ move ! (1 ∷ []) $ use1 W (raw (fact 𝓤 (r ≡ stepOf p h y))) (stepped-of 𝓤 H A at-mem run h y r) $ heard ! (r ≡ stepOf p h y) (λ e. split ! $ drop ! $
+        use1 W (later (some (λ (r : Lent). (‵ ftrue ⊛ ‵ (T.the-row .own r (v ∷ []))) ⊛ raw (ensured 𝓤 H A step.ended (step.clauses 𝓤 H A at-mem run) tt (h, (y, tt)) tt r)))) (id⊢ 𝓤 _) $ await ! tt $ pick ! (λ r.
+        split ! $ move ! (1 ∷ []) $ use1 W (raw (fact 𝓤 (r ≡ lentStep h y))) (stepped-of 𝓤 H A at-mem run h y r) $ heard ! (r ≡ lentStep h y) (λ e. split ! $ drop ! $
         -- [what `step`'s state owns; the cell; the open borrow; what observes it, and what holds it; _1; _4; …; room for _3; …; _2; …; _1's …; room for _0; …]
         move ! (0 ∷ 1 ∷ 2 ∷ 3 ∷ 4 ∷ 13 ∷ 5 ∷ 8 ∷ []) $ answers ! at-mem run fm answered b o h r v (λ Δ. from ! (stop !)) (λ a m is′ e′.
         -- [what observes the state; the borrow; the lifetime's token; _0; _1; _3; _4; _4's …; _3's …; _2; …; _1's …; _0's …]
         forget ! 3 refl $ forget ! 4 refl $ forget ! 5 refl $ forget ! 6 refl $ forget ! 9 refl $
         move ! (3 ∷ 12 ∷ []) $ free1 ! $ move ! (3 ∷ 10 ∷ []) $ free1 ! $ move ! (7 ∷ 8 ∷ []) $ free1 ! $ move ! (3 ∷ 6 ∷ []) $ free1 ! $ move ! (3 ∷ 4 ∷ []) $ free1 ! $ free0 ! $
-        keep ! (0 ∷ 1 ∷ 2 ∷ []) $ by ! (exits gy r a m is′ (e, e′ ∙ ap answerOf e)))))))))))))
+        keep ! (0 ∷ 1 ∷ 2 ∷ []) $ by ! (exits gy r a m is′ (e, e′ ∙ ap lentAnswer e)))))))))))))
 
 module _ {M : Type 1} (𝓤 : URA M) (H : Heap 𝓤) (A : Atoms 𝓤) (W : Given 𝓤 H A) (at-mem : Memory → SProp 𝓤) (run : Routine → Fun 𝓤) where
-  row-walks : (C : Calls 𝓤 H) (Λ : Loops 𝓤 H) → FmC 𝓤 H (W .laws) C → Triple 𝓤 (C #checker·step) (Step 𝓤 H A at-mem run) → Triple 𝓤 (C #checker·answer) (Answers 𝓤 H A at-mem run)
+  row-walks : (C : Calls 𝓤 H) (Λ : Loops 𝓤 H) → FmC 𝓤 H (W .laws) C → Triple 𝓤 (C #checker·lent-step) (Step 𝓤 H A at-mem run) → Triple 𝓤 (C #checker·lent-answer) (Answers 𝓤 H A at-mem run)
       → Walks 𝓤 H A in-place.ended stayed (WpFn 𝓤 H C Λ code.function) (in-place.clauses 𝓤 H A at-mem run)
   row-walks C Λ fm known answered = walked 𝓤 H A in-place.ended stayed (in-place.clauses 𝓤 H A at-mem run) (WpFn 𝓤 H C Λ code.function) (λ κs. (ptr-vals, (EL.vals P.the-type P′.the-laws, tt))) (λ κs. (mut-tells (named 0) (κs .0) T.the-row, (EL.tells P.the-type P′.the-laws, tt)))
       (λ κs qs bounds a _ _. via 𝓤 _ (fst∗ 𝓤 _ (emp 𝓤)) (walk 𝓤 H A W at-mem run (κs .0) (qs .0) (a .0 .ptr .0) (a .0 .ptr .1) (a .0 .name) (a .0 .now) (a .1 .0) C Λ fm known answered))
@@ -136,7 +135,7 @@ module _ {M : Type 1} (𝓤 : URA M) (H : Heap 𝓤) (A : Atoms 𝓤) (W : Given
   goes : AllGo 𝓤 H A W 1 (in-place.signature .params) (in-place.ended .kept) stayed
   goes = (goes-ref 𝓤 H A W 1 0 tt (plain (λ _. T.the-row)), (goes-none 𝓤 H A W 1 (λ _. P.the-row) yes (λ κs x f. refl), tt))
 
-row-meets : {M : Type 1} (𝓤 : URA M) (H : Heap 𝓤) (A : Atoms 𝓤) (W : Given 𝓤 H A) (mem : Memory → SProp 𝓤) (run : Routine → Fun 𝓤) (𝓣 : Tables 𝓤 H) → Triple 𝓤 (𝓣 .C #checker·step) (Step 𝓤 H A mem run) → Triple 𝓤 (𝓣 .C #checker·answer) (Answers 𝓤 H A mem run)
+row-meets : {M : Type 1} (𝓤 : URA M) (H : Heap 𝓤) (A : Atoms 𝓤) (W : Given 𝓤 H A) (mem : Memory → SProp 𝓤) (run : Routine → Fun 𝓤) (𝓣 : Tables 𝓤 H) → Triple 𝓤 (𝓣 .C #checker·lent-step) (Step 𝓤 H A mem run) → Triple 𝓤 (𝓣 .C #checker·lent-answer) (Answers 𝓤 H A mem run)
     → Meets 𝓤 H A in-place.signature (WpFn 𝓤 H (𝓣 .C) (𝓣 .Λ) code.function) (in-place.spec 𝓤 H A mem run)
 row-meets 𝓤 H A W mem run 𝓣 known answered =
     walk-meets 𝓤 H A in-place.ended stayed W (goes 𝓤 H A W mem run) (in-place.clauses 𝓤 H A mem run) (WpFn 𝓤 H (𝓣 .C) (𝓣 .Λ) code.function) (WpFn-mono 𝓤 H (W .laws) 𝓣 code.function)
@@ -148,5 +147,5 @@ row-in-place-spec 𝓤 H 𝓜 𝓖 𝓡 =
     entered 𝓤 H (tripleOf 𝓤 H (𝓖 .A) in-place.signature (in-place.spec 𝓤 H (𝓖 .A) (𝓜 .mem) (𝓡 .run)))
     (tables 𝓤 H 𝓜 𝓡 code.env .C) (tables 𝓤 H 𝓜 𝓡 code.env .Λ) #checker·row-in-place code.function (code.unfolded 𝓤 H 𝓜 𝓡)
     (row-meets 𝓤 H (𝓖 .A) (givenOf 𝓤 H 𝓜 𝓖) (𝓜 .mem) (𝓡 .run) (tablesOf 𝓤 H 𝓜 (tables 𝓤 H 𝓜 𝓡 code.env))
-    (cited 𝓤 H (Step 𝓤 H (𝓖 .A) (𝓜 .mem) (𝓡 .run)) 𝓜 𝓡 code.env #checker·step step-def.routine code.calls-checker·step (step-thm.met 𝓤 H 𝓜 𝓖 𝓡))
-    (cited 𝓤 H (Answers 𝓤 H (𝓖 .A) (𝓜 .mem) (𝓡 .run)) 𝓜 𝓡 code.env #checker·answer answer-def.routine code.calls-checker·answer (answer-thm.met 𝓤 H 𝓜 𝓖 𝓡)))
+    (cited 𝓤 H (Step 𝓤 H (𝓖 .A) (𝓜 .mem) (𝓡 .run)) 𝓜 𝓡 code.env #checker·lent-step step-def.routine code.calls-checker·lent-step (step-thm.met 𝓤 H 𝓜 𝓖 𝓡))
+    (cited 𝓤 H (Answers 𝓤 H (𝓖 .A) (𝓜 .mem) (𝓡 .run)) 𝓜 𝓡 code.env #checker·lent-answer answer-def.routine code.calls-checker·lent-answer (answer-thm.met 𝓤 H 𝓜 𝓖 𝓡)))

@@ -28,13 +28,13 @@ returns c =
     running-stops _ _ _ _ _ (c .before .before .before .before .loop .inv) (omega arith) (digit-other _ _ (d .ensures) (c .if1 .taken) (d .ok))
 
 mul-value : tie.Need-mul-value Inv-loop μ-loop
-mul-value c = let h = running-fits _ _ _ _ _ (c .before .before .before .before .loop .inv) (omega arith) in omega arith
+mul-value c = let h = running-fits _ _ _ _ _ (c .before .before .before .before .loop .inv) (omega arith) (omega arith) in omega arith
 
 cast-value : tie.Need-cast-value Inv-loop μ-loop
 cast-value c = omega arith
 
 add-value : tie.Need-add-value Inv-loop μ-loop
-add-value c = let h = running-fits _ _ _ _ _ (c .before .before .before .before .loop .inv) (omega arith) in omega arith
+add-value c = let h = running-fits _ _ _ _ _ (c .before .before .before .before .loop .inv) (omega arith) (omega arith) in omega arith
 
 add-i : tie.Need-add-i Inv-loop μ-loop
 add-i c = omega arith

@@ -14,11 +14,17 @@ use Rattle.factors.proofs.init.Tie as tie
 enum-told : tie.Need-enum-told
 enum-told c = search needs
 
+cast-by-triple : tie.Need-cast-by-triple
+cast-by-triple c = search needs
+
 by-triple-requires : tie.Need-by-triple-requires
 by-triple-requires c κs = search needs
 
 enum-told-2 : tie.Need-enum-told-2
 enum-told-2 c = search needs
+
+cast-by-triple-2 : tie.Need-cast-by-triple-2
+cast-by-triple-2 c = search needs
 
 by-triple-requires-2 : tie.Need-by-triple-requires-2
 by-triple-requires-2 c κs = search needs
@@ -37,11 +43,11 @@ enum-told-5 c = search needs
 
 returns : tie.Need-returns
 unfolding multiply multiplied writtenBy readBy suppliedBy lookedBy lookupsBy enqueuedBy dequeuedBy hashFrom isOp opCode setInit popLookup
-returns c = let s = c .before .before .before in simp (c .by-triple .ensures, c .before .enum-told .given .1, s .pre)
+returns c = let s = c .before .before .before .before in simp (c .by-triple .ensures, c .before .before .enum-told .given .1, s .pre)
 
 returns-2 : tie.Need-returns-2
 unfolding multiply multiplied writtenBy readBy suppliedBy lookedBy lookupsBy enqueuedBy dequeuedBy hashFrom isOp opCode setInit popLookup
-returns-2 c = let s = c .before .before .before in simp (c .by-triple2 .ensures, c .before .enum-told2 .given .1, s .pre)
+returns-2 c = let s = c .before .before .before .before in simp (c .by-triple2 .ensures, c .before .before .enum-told2 .given .1, s .pre)
 
 returns-3 : tie.Need-returns-3
 unfolding multiply multiplied writtenBy readBy suppliedBy lookedBy lookupsBy enqueuedBy dequeuedBy hashFrom isOp opCode setInit popLookup
@@ -65,8 +71,10 @@ init-spec =
     tie.close
     (tie.spec
     enum-told
+    cast-by-triple
     by-triple-requires
     enum-told-2
+    cast-by-triple-2
     by-triple-requires-2
     enum-told-3
     by-pair-requires

@@ -24,8 +24,14 @@ returns c =
       nothing-dequeued (start .args .c .memory) (start .args .row) (start .pre) refl refl,
     )
 
+cast-add : tie.Need-cast-add
+cast-add c = search needs
+
 add-requires : tie.Need-add-requires
 add-requires c κs = search needs
+
+cast-sub : tie.Need-cast-sub
+cast-sub c = search needs
 
 sub-requires : tie.Need-sub-requires
 sub-requires c κs = search needs
@@ -39,12 +45,14 @@ returns-2 c =
     let c1 = c .before in
     let c2 = c1 .before in
     let c3 = c2 .before in
-    let start = c3 .before .before in
+    let c4 = c3 .before in
+    let c5 = c4 .before in
+    let start = c5 .before .before in
     simp (
       c .by-triple .ensures,
       c1 .sub .ensures,
-      c2 .add .ensures,
-      eq-eqb _ _ (c3 .if1 .left),
+      c3 .add .ensures,
+      eq-eqb _ _ (c5 .if1 .left),
       start .pre,
       nothing-dequeued (start .args .c .memory) (start .args .row) (start .pre) refl refl,
       minus-reduced,
@@ -52,4 +60,4 @@ returns-2 c =
     )
 
 pub push-spec : {M : Type 1} → statement M
-push-spec = tie.close (tie.spec returns add-requires sub-requires by-triple-requires returns-2)
+push-spec = tie.close (tie.spec returns cast-add add-requires cast-sub sub-requires by-triple-requires returns-2)

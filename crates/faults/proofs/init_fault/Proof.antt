@@ -1,7 +1,7 @@
 -- `faults::init_fault` meets its contract.
 -- Assumes nothing.
 use mathlib.Core.Path.{ap, _∙_}
-use Rattle.field.specs.Field.{p}
+use Rattle.field.specs.Moduli.{modulusOf}
 use Rattle.memory.specs.declared.Op.{Op}
 use Rattle.faults.specs.Scan.{initFault}
 use borrow.Author.Needs.{needs}
@@ -16,7 +16,10 @@ fault-requires c κs = search needs
 
 returns : tie.Need-returns
 unfolding initFault
-returns c = c .fault .ensures ∙ ap (λ (o : Op). initFault p (record { op = o; guard = c .before .before .args .row .guard; addr = c .before .before .args .row .addr; value = c .before .before .args .row .value })) (c .before .coded .ensures)
+returns c =
+    let a = c .before .before .args in
+    c .fault .ensures
+    ∙ ap (λ (o : Op). initFault (modulusOf (a .field)) (record { op = o; guard = a .row .guard; addr = a .row .addr; value = a .row .value })) (c .before .coded .ensures)
 
 pub init-fault-spec : {M : Type 1} → statement M
 init-fault-spec = tie.close (tie.spec coded-requires fault-requires returns)

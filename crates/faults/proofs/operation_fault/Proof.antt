@@ -15,13 +15,13 @@ fault-requires : tie.Need-fault-requires
 fault-requires c κs = search needs
 
 returns : tie.Need-returns
-returns c = let at = c .before .before .before .before .before .args in fault-form (at .m) (inTree (valuesIn (at .inits .now)) (at .links .now)) (at .level) (at .row) (c .before .before .coded .ensures) (c .before .fault .ensures) (c .if1 .taken)
+returns c = let at = c .before .before .before .before .before .args in fault-form _ (at .m) (inTree (valuesIn (at .inits .now)) (at .links .now)) (at .level) (at .row) (c .before .before .coded .ensures) (c .before .fault .ensures) (c .if1 .taken)
 
 refusal-requires : tie.Need-refusal-requires
 refusal-requires c κs = search needs
 
 returns-2 : tie.Need-returns-2
-returns-2 c = let at = c .before .before .before .before .before .before .args in c .refusal .ensures ∙ fault-possible (at .m) (inTree (valuesIn (at .inits .now)) (at .links .now)) (at .level) (at .row) (c .before .before .before .coded .ensures) (c .before .before .fault .ensures) (c .before .if1 .left)
+returns-2 c = let at = c .before .before .before .before .before .before .args in c .refusal .ensures ∙ fault-possible _ (at .m) (inTree (valuesIn (at .inits .now)) (at .links .now)) (at .level) (at .row) (c .before .before .before .coded .ensures) (c .before .before .fault .ensures) (c .before .if1 .left)
 
 pub operation-fault-spec : {M : Type 1} → statement M
 operation-fault-spec =

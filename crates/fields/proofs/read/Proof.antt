@@ -1,4 +1,6 @@
--- `fields::read` meets its contract. The loop's invariant: the numbers that were passed are in the slice, it is known whether they are below p, and those that are left are still to be read.
+-- `fields::read` meets its contract. The loop's invariant: the numbers that were passed are in the
+-- slice, it is known whether they are below the modulus, and those that are left are still to be
+-- read.
 -- Assumes nothing.
 use Prim.Native.Nat.{_-_}
 use mathlib.Core.Path.{refl}
@@ -7,24 +9,26 @@ use native.Mathlib.Omega.{arith}
 use lib.ListN.{length, length-set}
 use borrow.Author.Needs.{needs}
 use borrow.Author.Tests.{not-true, not-false}
-use Rattle.field.specs.Field.{p}
 use Rattle.fields.specs.Keyed.{takenOf}
 use Rattle.fields.proofs.Fields.{Reading, reading-begins, reading-goes, reading-fails, reading-ends, reading-over, line-long, line-broken}
 use Rattle.fields.proofs.read.Statement.{statement}
 use Rattle.fields.proofs.read.Tie as tie
 
 abbrev Inv-loop : tie.InvT-loop
-Inv-loop text ended numbers₀ name next₀ below₀ i₀ numbers next below i = Reading (length numbers₀) text ended numbers i next below
+Inv-loop text ended numbers₀ p name next₀ below₀ i₀ numbers next below i = Reading p (length numbers₀) text ended numbers i next below
 
 abbrev μ-loop : tie.MeasureT-loop
-μ-loop text ended numbers₀ name next₀ below₀ i₀ numbers next below i = length numbers - i
+μ-loop text ended numbers₀ p name next₀ below₀ i₀ numbers next below i = length numbers - i
+
+modulus-requires : tie.Need-modulus-requires Inv-loop μ-loop
+modulus-requires c κs = search needs
 
 returns : tie.Need-returns Inv-loop μ-loop
 unfolding takenOf
 returns c = (
   ⊎-elim
-      (λ w. line-long _ _ _ (w .taken))
-      (λ w. line-broken _ _ _ (not-true _ (w .1 .taken)))
+      (λ w. line-long _ _ _ _ (w .taken))
+      (λ w. line-broken _ _ _ _ (not-true _ (w .1 .taken)))
       (c .if1 .came),
   refl,
 )
@@ -33,7 +37,7 @@ name-of-requires : tie.Need-name-of-requires Inv-loop μ-loop
 name-of-requires c κs = search needs
 
 loop-holds : tie.Need-loop-holds Inv-loop μ-loop
-loop-holds c = reading-begins _ (c .before .before .if1 .left) (not-false _ (c .before .if2 .left)) (c .name-of .ensures)
+loop-holds c = reading-begins _ _ (c .before .before .if1 .left) (not-false _ (c .before .if2 .left)) (c .name-of .ensures)
 
 number-at-requires : tie.Need-number-at-requires Inv-loop μ-loop
 number-at-requires c κs = search needs
@@ -51,7 +55,7 @@ returns-2 : tie.Need-returns-2 Inv-loop μ-loop
 unfolding takenOf
 returns-2 c =
     let l = c .before .before .before .before .loop .inv in
-    (reading-fails l (omega arith) (c .before .before .number-at .ensures) (c .enum-told .given .1), l .many)
+    (rw (← c .before .before .before .before .before .before .before .before .modulus .ensures) (reading-fails l (omega arith) (c .before .before .number-at .ensures) (c .enum-told .given .1)), l .many)
 
 mul-numbers : tie.Need-mul-numbers Inv-loop μ-loop
 mul-numbers c = search needs
@@ -66,7 +70,6 @@ loop-less : tie.Need-loop-less Inv-loop μ-loop
 loop-less c = simp length-set (omega arith)
 
 loop-again : tie.Need-loop-again Inv-loop μ-loop
-unfolding p
 loop-again c =
     let l = c .before .before .before .before .before .loop .inv in
     reading-goes l (omega arith) (c .before .before .before .number-at .ensures) (c .before .value .given .1)
@@ -76,7 +79,7 @@ same-length-2 c = c .before .before .loop .inv .many
 
 returns-3 : tie.Need-returns-3 Inv-loop μ-loop
 unfolding takenOf
-returns-3 c = (reading-over (c .before .before .loop .inv) (omega arith) (c .if3 .taken), c .before .before .loop .inv .many)
+returns-3 c = (rw (← c .before .before .before .before .before .before .modulus .ensures) (reading-over (c .before .before .loop .inv) (omega arith) (c .if3 .taken)), c .before .before .loop .inv .many)
 
 same-length-3 : tie.Need-same-length-3 Inv-loop μ-loop
 same-length-3 c = c .before .before .loop .inv .many
@@ -84,7 +87,7 @@ same-length-3 c = c .before .before .loop .inv .many
 returns-4 : tie.Need-returns-4 Inv-loop μ-loop
 unfolding takenOf
 returns-4 c =
-    (reading-ends (c .before .before .loop .inv) (omega arith) (c .before .before .before .name-of .ensures) (c .if3 .left), c .before .before .loop .inv .many)
+    (rw (← c .before .before .before .before .before .before .modulus .ensures) (reading-ends (c .before .before .loop .inv) (omega arith) (c .before .before .before .name-of .ensures) (c .if3 .left)), c .before .before .loop .inv .many)
 
 pub read-spec : {M : Type 1} → statement M
 read-spec =
@@ -92,6 +95,7 @@ read-spec =
     (tie.spec
     Inv-loop
     μ-loop
+    modulus-requires
     returns
     name-of-requires
     loop-holds

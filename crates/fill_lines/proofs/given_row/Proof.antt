@@ -1,8 +1,6 @@
 -- `fill_lines::given_row` meets its contract: each column is a number of the line.
 -- Assumes nothing.
-use mathlib.Core.Path.{_∙_}
 use borrow.Author.Needs.{needs}
-use Rattle.lines.proofs.Parse.{element-whole}
 use Rattle.fill_lines.specs.Answers.{givenOf, inputWith}
 use Rattle.fill_lines.proofs.given_row.Statement.{statement}
 use Rattle.fill_lines.proofs.given_row.Tie as tie
@@ -20,8 +18,7 @@ returns : tie.Need-returns
 unfolding givenOf inputWith
 returns c =
     let e = c .before .before in
-    let whole = element-whole _ (e .before .before .pre) in
-    rw (e .element .ensures ∙ whole 0, c .before .element2 .ensures ∙ whole 1, c .element3 .ensures ∙ whole 2)
+    rw (e .element .ensures, c .before .element2 .ensures, c .element3 .ensures)
 
 pub given-row-spec : {M : Type 1} → statement M
 given-row-spec = tie.close (tie.spec element-requires element-requires-2 element-requires-3 returns)

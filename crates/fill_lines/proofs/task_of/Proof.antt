@@ -1,13 +1,15 @@
--- `fill_lines::task_of` meets its contract: size and count are the numbers of the line.
+-- `fill_lines::task_of` meets its contract: size and count are the numbers of the line, and fit 32
+-- bits.
 -- Assumes nothing.
 use mathlib.Core.Path.{_≡_, sym, ap₂, _∙_}
+use native.Mathlib.Omega.{arith}
 use lib.ListN.{getD}
 use borrow.Author.Needs.{needs}
 use borrow.Author.Tests.{not-true, not-false}
 use Rattle.runs.specs.FillFile.{fillAllowed, jobOf}
 use Rattle.keys.specs.Keys.{knownOf}
-use Rattle.lines.proofs.Parse.{element-whole}
 use Rattle.fill_lines.specs.Answers.{taskOf}
+use Rattle.fill_lines.proofs.Parse.{fill-fits}
 use Rattle.fill_lines.proofs.task_of.Statement.{statement}
 use Rattle.fill_lines.proofs.task_of.Tie as tie
 
@@ -18,8 +20,7 @@ tested :
     let ns = k .before .before .before .args .values .now in
     c .allowed .result ≡ fillAllowed (k .known .given .0 .0) (getD ns 0 0) (getD ns 1 0)
 tested c =
-    let whole = element-whole _ (c .before .before .before .before .before .before .before .pre) in
-    c .allowed .ensures ∙ ap₂ (fillAllowed _) (c .before .before .element .ensures ∙ whole 0) (c .before .element2 .ensures ∙ whole 1)
+    c .allowed .ensures ∙ ap₂ (fillAllowed _) (c .before .before .element .ensures) (c .before .element2 .ensures)
 
 enum-known-known : tie.Need-enum-known-known
 enum-known-known c = search needs
@@ -45,15 +46,20 @@ unfolding taskOf jobOf knownOf
 returns-2 c =
     rw (c .before .before .before .before .before .known .given .1, sym (tested (c .before)) ∙ not-true _ (c .if1 .taken))
 
+cast-t8 : tie.Need-cast-t8
+cast-t8 c = omega (arith, fill-fits _ _ _ (sym (c .before .allowed .ensures) ∙ not-false _ (c .if1 .left)))
+
+cast-t9 : tie.Need-cast-t9
+cast-t9 c = omega (arith, fill-fits _ _ _ (sym (c .before .allowed .ensures) ∙ not-false _ (c .if1 .left)))
+
 returns-3 : tie.Need-returns-3
 unfolding taskOf jobOf knownOf
 returns-3 c =
     let k = c .before .before .before .before .before in
-    let whole = element-whole _ (k .before .before .before .pre) in
     rw (
       k .known .given .1,
-      c .before .before .before .element .ensures ∙ whole 0,
-      c .before .before .element2 .ensures ∙ whole 1,
+      c .before .before .before .element .ensures,
+      c .before .before .element2 .ensures,
       sym (tested (c .before)) ∙ not-false _ (c .if1 .left),
     )
 
@@ -68,4 +74,6 @@ task-of-spec =
     element-requires-2
     allowed-requires
     returns-2
+    cast-t8
+    cast-t9
     returns-3)

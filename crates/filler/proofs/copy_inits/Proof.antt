@@ -24,7 +24,7 @@ abbrev μ-loop : tie.MeasureT-loop
 μ-loop n inits out₀ k₀ out k = n - k
 
 loop-holds : tie.Need-loop-holds Inv-loop μ-loop
-loop-holds c = (omega arith, refl, refl, record { place = 1; none = c .before .before .pre .1 })
+loop-holds c = (omega arith, refl, refl, record { modulus = c .before .before .pre .1 .modulus; place = 1; none = c .before .before .pre .1 .none })
 
 read-requires : tie.Need-read-requires Inv-loop μ-loop
 read-requires c κs = search needs

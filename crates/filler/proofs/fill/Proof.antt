@@ -2,7 +2,7 @@
 -- Assumes nothing.
 use mathlib.Core.Path.{sym, ap, _∙_}
 use lib.ListN.{take, drop}
-use Rattle.field.specs.Field.{p}
+use Rattle.field.specs.Moduli.{modulusOf}
 use Rattle.runs.specs.Filler.{inputsIn, fillRows}
 use Rattle.filler.specs.Answer.{knownOf}
 use Rattle.filler.proofs.Whole.{fills-same, roomy, away-unknown, away, not-away}
@@ -23,7 +23,7 @@ returns : tie.Need-returns
 unfolding knownOf
 returns c =
     let at = c .before .before .before .before .before .before .args in
-    away-unknown (at .memory) (at .size) (at .count) (at .rows .now) (at .out .now) (at .scratch .now) (sym (c .before .before .memory-of .ensures) ∙ ap knownOf (c .enum-told .given .1))
+    away-unknown _ (at .memory) (at .size) (at .count) (at .rows .now) (at .out .now) (at .scratch .now) (sym (c .before .before .memory-of .ensures) ∙ ap knownOf (c .enum-told .given .1))
 
 turned-away-requires : tie.Need-turned-away-requires
 turned-away-requires c κs = search needs
@@ -33,7 +33,7 @@ unfolding knownOf
 returns-2 c =
     let at = c .before .before .before .before .before .before .before .before .before .args in
     let known = sym (c .before .before .before .before .before .memory-of .ensures) ∙ ap knownOf (c .before .before .before .m .given .1) in
-    away (at .memory) (at .size) (at .count) (at .rows .now) (at .out .now) (at .scratch .now) (c .before .before .before .m .given .0 .0) known (c .before .turned-away .ensures) (c .if1 .taken)
+    away _ (at .memory) (at .size) (at .count) (at .rows .now) (at .out .now) (at .scratch .now) (c .before .before .before .m .given .0 .0) known (c .before .turned-away .ensures) (c .if1 .taken)
 
 fill-rows-requires : tie.Need-fill-rows-requires
 fill-rows-requires c κs =
@@ -51,7 +51,7 @@ unfolding knownOf
 returns-3 c =
     let at = c .before .before .before .before .before .before .before .before .before .before .before .before .before .before .before .before .args in
     let known = sym (c .before .before .before .before .before .before .before .before .before .before .before .before .memory-of .ensures) ∙ ap knownOf (c .before .before .before .before .before .before .before .before .before .before .m .given .1) in
-    fills-same {f = fillRows p (c .before .before .before .before .before .before .before .before .before .before .m .given .0 .0) (at .count) (take (at .size) (inputsIn (at .rows .now))) (drop (at .size) (inputsIn (at .rows .now))) (at .out .now) (at .scratch .now)} (c .before .before .before .before .fill-rows .ensures) (not-away (at .memory) (at .size) (at .count) (at .rows .now) (at .out .now) (at .scratch .now) (c .before .before .before .before .before .before .before .before .before .before .m .given .0 .0) known (sym (c .before .before .before .before .before .before .before .before .turned-away .ensures) ∙ c .before .before .before .before .before .before .before .if1 .left))
+    fills-same {f = fillRows (modulusOf (at .field)) (c .before .before .before .before .before .before .before .before .before .before .m .given .0 .0) (at .count) (take (at .size) (inputsIn (at .rows .now))) (drop (at .size) (inputsIn (at .rows .now))) (at .out .now) (at .scratch .now)} (c .before .before .before .before .fill-rows .ensures) (not-away _ (at .memory) (at .size) (at .count) (at .rows .now) (at .out .now) (at .scratch .now) (c .before .before .before .before .before .before .before .before .before .before .m .given .0 .0) known (sym (c .before .before .before .before .before .before .before .before .turned-away .ensures) ∙ c .before .before .before .before .before .before .before .if1 .left))
 
 pub fill-spec : {M : Type 1} → statement M
 fill-spec =

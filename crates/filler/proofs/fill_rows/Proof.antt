@@ -4,7 +4,7 @@ use Prim.Native.Nat.{ℕ, _*_}
 use native.Mathlib.Omega.{arith}
 use mathlib.Core.Path.{sym, ap, _∙_}
 use lib.ListN.{replicate, length-drop}
-use Rattle.field.specs.Field.{p}
+use Rattle.field.specs.Moduli.{modulusOf}
 use Rattle.runs.specs.Filler.{inputsIn, room, Placed}
 use Rattle.index.specs.Values.{valuesIn}
 use Rattle.filler.proofs.Inputs.{inputs-count, values-count}
@@ -68,10 +68,10 @@ returns c =
     let inits = initWords rows (at .n) (at .t) all in
     let ops = opWords rows (at .n) (at .t) all in
     let fault = c .before .before .before .before .before .before .before .before .before .before .before .first-fault .result in
-    fills-same (refused-is (at .m) (at .t) (inputsIn inits) (inputsIn ops) (at .out .now) (at .scratch .now) _ _ fault
+    fills-same (refused-is _ (at .m) (at .t) (inputsIn inits) (inputsIn ops) (at .out .now) (at .scratch .now) _ _ fault
     (c .before .before .before .before .before .before .before .before .before .before .before .first-fault .ensures .0) (c .before .before .before .before .before .before .before .if1 .taken) (c .before .before .before .before .clear-both .ensures .0)
-    (c .before .before .before .before .clear-both .ensures .1 ∙ ap (λ (k : ℕ). replicate k 0) (c .before .before .before .before .before .before .before .before .before .before .before .first-fault .kept .1 .1 .1 .1 .0)))
-    (parts-filled rows (at .n) (at .t) all (at .m) (at .out .now) (at .scratch .now))
+    (c .before .before .before .before .clear-both .ensures .1 ∙ ap (λ (k : ℕ). replicate k 0) (c .before .before .before .before .before .before .before .before .before .before .before .first-fault .kept .1 .1 .1 .1 .1 .0)))
+    (parts-filled rows (at .n) (at .t) all _ (at .m) (at .out .now) (at .scratch .now))
 
 write-rows-requires : tie.Need-write-rows-requires
 unfolding room
@@ -87,7 +87,7 @@ write-rows-requires c κs =
     let values = values-count inits (at .n) starting in
     let inputs = inputs-count inits (at .n) starting in
     let none = ap (λ (f : Placed). f .number) (sym (c .before .before .before .before .before .before .first-fault .ensures .0)) ∙ c .before .before .if1 .left in (
-      clean-inits p (at .m) (valuesIn inits) (inputsIn inits) (inputsIn ops) (at .n) values inputs size none,
+      record { modulus = modulusOf (at .field); none = clean-inits _ (at .m) (valuesIn inits) (inputsIn inits) (inputsIn ops) (at .n) values inputs size none },
       (
         omega (arith, c .before .before .before .before .before .before .before .before .before .before .before .before .before .pre .out-room),
         (
@@ -99,7 +99,8 @@ write-rows-requires c κs =
             operating = op-words-count rows (at .n) (at .t) all;
             out-room = omega (arith, c .before .before .before .before .before .before .before .before .before .before .before .before .before .pre .out-room, length-drop (7 * at .n) (at .out .now));
             scratch-room = omega (arith, c .before .before .before .before .before .before .first-fault .kept, c .before .before .before .before .before .before .before .before .before .before .before .before .before .pre .scratch-room);
-            clean = clean-operations p (at .m) (valuesIn inits) (inputsIn inits) (inputsIn ops) (at .n) values inputs size none;
+            modulus = modulusOf (at .field);
+            clean = clean-operations _ (at .m) (valuesIn inits) (inputsIn inits) (inputsIn ops) (at .n) values inputs size none;
           },
           c .before .before .before .before .before .before .first-fault .ensures .1,
         ),
@@ -121,9 +122,9 @@ returns-2 c =
     let inits = initWords rows (at .n) (at .t) all in
     let ops = opWords rows (at .n) (at .t) all in
     let none = ap (λ (f : Placed). f .number) (sym (c .before .before .before .before .before .before .before .before .before .before .before .first-fault .ensures .0)) ∙ c .before .before .before .before .before .before .before .if1 .left in
-    fills-same (filled-is (at .m) (at .t) (inputsIn inits) (inputsIn ops) (at .out .now) (at .scratch .now) _ _ (c .before .before .before .before .write-rows .result)
-    none (c .before .before .before .before .write-rows .ensures .0) (c .before .before .before .before .write-rows .ensures .1 .0 ∙ ap (λ (k : ℕ). replicate k 0) (c .before .before .before .before .before .before .before .before .before .before .before .first-fault .kept .1 .1 .1 .1 .0)) (c .before .before .before .before .write-rows .ensures .1 .1))
-    (parts-filled rows (at .n) (at .t) all (at .m) (at .out .now) (at .scratch .now))
+    fills-same (filled-is _ (at .m) (at .t) (inputsIn inits) (inputsIn ops) (at .out .now) (at .scratch .now) _ _ (c .before .before .before .before .write-rows .result)
+    none (c .before .before .before .before .write-rows .ensures .0) (c .before .before .before .before .write-rows .ensures .1 .0 ∙ ap (λ (k : ℕ). replicate k 0) (c .before .before .before .before .before .before .before .before .before .before .before .first-fault .kept .1 .1 .1 .1 .1 .0)) (c .before .before .before .before .write-rows .ensures .1 .1))
+    (parts-filled rows (at .n) (at .t) all _ (at .m) (at .out .now) (at .scratch .now))
 
 pub fill-rows-spec : {M : Type 1} → statement M
 fill-rows-spec =

@@ -7,7 +7,6 @@ use mathlib.Core.Bool.{true}
 use mathlib.Core.Path.{_≡_, sym, ap, _∙_}
 use lib.ListN.{length, getD}
 use lib.Seq.{length-take-le}
-use Rattle.field.specs.Field.{p}
 use Rattle.memory.specs.Rows.{sized}
 use Rattle.runs.specs.Filler.{inputsIn}
 use Rattle.faults.proofs.FirstFault.{scan-finds-first}
@@ -48,7 +47,7 @@ returns c =
     let inits = at .inits .now in
     let prepared = c .before .before .before .before .prepare .ensures in
     let sizes : sized (at .m) (length (inputsIn inits)) ≡ true = ap (sized (at .m)) (inputs-count inits (at .n) (pre .0 .0)) ∙ pre .1 in
-    (c .first .ensures ∙ scan-finds-first p (at .m) inits _ (at .ops .now) sizes (prepared-tree (at .m) (at .n) inits _ prepared), prepared)
+    (c .first .ensures ∙ scan-finds-first _ (at .m) inits _ (at .ops .now) sizes (prepared-tree (at .m) (at .n) inits _ prepared), prepared)
 
 pub first-fault-spec : {M : Type 1} → statement M
 first-fault-spec =

@@ -1,8 +1,9 @@
 -- `fillfile::advance` meets its contract.
 -- Assumes nothing.
+use mathlib.Core.Path.{refl}
 use native.Mathlib.Omega.{arith}
 use lib.ListN.{length-take}
-use Rattle.field.specs.Field.{p}
+use Rattle.field.specs.Moduli.{modulusOf}
 use Rattle.runs.specs.FillStream.{gathered, lineTaken}
 use Rattle.runs.proofs.FillStream.{cut-line}
 use Rattle.pieces.proofs.Calls.{advanced}
@@ -40,8 +41,11 @@ returns c =
     let end = c .before .before .before .before .before .before .before .before .before .before .smaller in
     let a = c .before .before .before .before .before .before .before .before .before .before .before .before .before .args in
     let keep = c .before .before .keep in
-    advanced (lineTaken p) (cut-line p) (gathered (a .progress .intake) (a .words .now)) (a .filled) (a .buf .now) (end .result) (end .ensures)
-    (gathered (taken .result .intake) (taken .last .1 .1 .0)) (taken .result .used) (taken .ensures) (keep .result) (keep .ensures .0) (keep .last .0) (keep .ensures .1)
+    let q = modulusOf (a .progress .field) in (
+      advanced (lineTaken q) (cut-line q) (gathered (a .progress .intake) (a .words .now)) (a .filled) (a .buf .now) (end .result) (end .ensures)
+          (gathered (taken .result .intake) (taken .last .1 .1 .1 .0)) (taken .result .used) (taken .ensures) (keep .result) (keep .ensures .0) (keep .last .0) (keep .ensures .1),
+      refl,
+    )
 
 pub advance-spec : {M : Type 1} → statement M
 advance-spec =

@@ -52,8 +52,8 @@ returns c =
     let taken = c .before .before .before .before .before .before .before .before .before .before .before .before .before .before .lines-in in
     let last = c .before .before .before .before .before .before .before .before .before .before .last in
     let finish = c .before .before .before .before .finish in
-    whole-input _ _ (lit≤ tt) (lit≤ tt) (a .input .now) _ (lit≤ tt) (start .result) (start .ensures) (taken .last .1 .1 .0) (taken .result) (taken .ensures)
-    (last .result) (last .last .1 .1 .0) (last .ensures) (finish .last .1 .1 .0) (finish .last .1 .1 .1 .0) (a .text .now) (finish .last .1 .1 .1 .1 .0) (finish .result) (finish .ensures)
+    whole-input _ _ _ (lit≤ tt) (lit≤ tt) (a .input .now) _ (lit≤ tt) _ (start .result) (start .ensures .0) (taken .last .1 .1 .1 .0) (taken .result) (taken .ensures)
+    (last .result) (last .last .1 .1 .1 .0) (last .ensures) (finish .last .1 .1 .1 .0) (finish .last .1 .1 .1 .1 .0) (a .text .now) (finish .last .1 .1 .1 .1 .1 .0) (finish .result) (finish .ensures)
 
 pub fill-file-spec : {M : Type 1} → statement M
 fill-file-spec =

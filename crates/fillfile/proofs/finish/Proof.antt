@@ -38,8 +38,8 @@ returns c =
     let last = c .before .before .before .before .before .before .before .before .before .before .before .before .before .last in
     let end = c .before .before .before .before .before .before .before .before .before .before .before .before .before .before .before .before .smaller in
     let finish = c .before .before .before .before .before .before .finish in
-    finished (a .progress) (a .buf .now) (a .words .now) (end .result) (end .ensures) (last .result) (last .last .1 .1 .0) (last .ensures)
-    (a .out .now) (finish .last .1 .1 .0) (a .scratch .now) (finish .last .1 .1 .1 .0) (a .text .now) (finish .last .1 .1 .1 .1 .0) (finish .result) (finish .ensures)
+    finished _ (a .progress) (a .buf .now) (a .words .now) (end .result) (end .ensures) (last .result) (last .last .1 .1 .1 .0) (last .ensures)
+    (a .out .now) (finish .last .1 .1 .1 .0) (a .scratch .now) (finish .last .1 .1 .1 .1 .0) (a .text .now) (finish .last .1 .1 .1 .1 .1 .0) (finish .result) (finish .ensures)
 
 pub finish-spec : {M : Type 1} → statement M
 finish-spec =

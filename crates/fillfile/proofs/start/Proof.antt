@@ -8,7 +8,7 @@ use Rattle.fillfile.proofs.start.Tie as tie
 
 returns : tie.Need-returns
 unfolding begun untaken
-returns c = refl
+returns c = (refl, refl)
 
 pub start-spec : {M : Type 1} → statement M
 start-spec = tie.close (tie.spec returns)

@@ -7,14 +7,8 @@ use borrow.Author.Needs.{needs}
 use Rattle.index.proofs.join.Statement.{statement}
 use Rattle.index.proofs.join.Tie as tie
 
-cast-low : tie.Need-cast-low
-cast-low c = search needs
-
 rem-low : tie.Need-rem-low
 rem-low c = search needs
-
-cast-low-2 : tie.Need-cast-low-2
-cast-low-2 c = search needs
 
 mul-result : tie.Need-mul-result
 mul-result c = search needs
@@ -40,9 +34,7 @@ pub join-spec : {M : Type 1} → statement M
 join-spec =
     tie.close
     (tie.spec
-    cast-low
     rem-low
-    cast-low-2
     mul-result
     add-result
     mul-result-2

@@ -5,7 +5,7 @@ use native.Mathlib.Omega.{arith}
 use mathlib.Core.Path.{_≡_, refl, _∙_}
 use mathlib.Core.List.{[]}
 use lib.ListN.{length, take, drop, length-drop}
-use Rattle.field.specs.Field.{p}
+use Rattle.field.specs.Moduli.{modulusOf}
 use Rattle.memory.specs.Pieces.{piece, bytesIn}
 use Rattle.runs.specs.FillStream.{gathered, lineTaken}
 use Rattle.runs.proofs.FillStream.{cut-line}
@@ -15,12 +15,12 @@ use Rattle.intake.proofs.lines_in.Statement.{statement}
 use Rattle.intake.proofs.lines_in.Tie as tie
 
 abbrev Inv-loop : tie.InvT-loop
-Inv-loop intake₀ block words₀ used₀ at₀ intake words used at =
+Inv-loop field intake₀ block words₀ used₀ at₀ intake words used at =
     ((used ≤ length block) × (length words ≡ length words₀))
-    × ((bytesIn (lineTaken p) (piece (gathered intake₀ words₀) []) (take used block) ≡ piece (gathered intake words) []) × (at ≡ used + untilFeed (drop used block)))
+    × ((bytesIn (lineTaken (modulusOf field)) (piece (gathered intake₀ words₀) []) (take used block) ≡ piece (gathered intake words) []) × (at ≡ used + untilFeed (drop used block)))
 
 abbrev μ-loop : tie.MeasureT-loop
-μ-loop intake₀ block words₀ used₀ at₀ intake words used at = length block - used
+μ-loop field intake₀ block words₀ used₀ at₀ intake words used at = length block - used
 
 feed-from-requires : tie.Need-feed-from-requires Inv-loop μ-loop
 feed-from-requires c κs = tt
@@ -56,8 +56,9 @@ loop-again c =
     let l = turn .before .loop in
     let a = turn .before .before .before .before .before .args in
     let next = c .before .before .before .line in
-    let more = lines-more (lineTaken p) (cut-line p) (gathered (a .intake) (a .words .now)) (gathered (l .intake) (l .words)) (gathered (next .result) (next .last .1 .1 .1 .0)) (a .block .now) (l .used) (l .at) in
-    ((omega arith, next .kept .1 .1 .1 .0 ∙ l .inv .0 .1), (more (l .inv .1 .0) (l .inv .1 .1) (turn .loop-test .taken) (next .ensures), c .feed-from2 .ensures))
+    let q = modulusOf (a .field) in
+    let more = lines-more (lineTaken q) (cut-line q) (gathered (a .intake) (a .words .now)) (gathered (l .intake) (l .words)) (gathered (next .result) (next .last .1 .1 .1 .1 .0)) (a .block .now) (l .used) (l .at) in
+    ((omega arith, next .kept .1 .1 .1 .1 .0 ∙ l .inv .0 .1), (more (l .inv .1 .0) (l .inv .1 .1) (turn .loop-test .taken) (next .ensures), c .feed-from2 .ensures))
 
 same-length : tie.Need-same-length Inv-loop μ-loop
 same-length c = c .before .loop .inv .0 .1

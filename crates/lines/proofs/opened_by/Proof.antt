@@ -1,11 +1,14 @@
--- `lines::opened_by` meets its contract: each value is a number of the line.
+-- `lines::opened_by` meets its contract: each value is a number of the line, and an allowed size
+-- and count fit 32 bits.
 -- Assumes nothing.
-use mathlib.Core.Path.{_∙_}
+use mathlib.Core.Path.{sym, _∙_}
+use native.Mathlib.Omega.{arith}
 use borrow.Author.Needs.{needs}
+use borrow.Author.Tests.{not-true, not-false}
 use Rattle.memory.specs.File.{openedBy}
 use Rattle.keys.specs.Keys.{knownOf}
 use Rattle.lines.specs.Answers.{openingOf}
-use Rattle.lines.proofs.Parse.{element-whole}
+use Rattle.lines.proofs.Parse.{allowed-fits}
 use Rattle.lines.proofs.opened_by.Statement.{statement}
 use Rattle.lines.proofs.opened_by.Tie as tie
 
@@ -25,6 +28,22 @@ element-requires c κs = search needs
 element-requires-2 : tie.Need-element-requires-2
 element-requires-2 c κs = search needs
 
+allowed-requires : tie.Need-allowed-requires
+allowed-requires c κs = search needs
+
+returns-2 : tie.Need-returns-2
+unfolding openingOf openedBy knownOf
+returns-2 c =
+    let e = c .before .before in
+    let refused = sym (c .before .allowed .ensures) ∙ not-true _ (c .if1 .taken) in
+    rw (e .before .before .before .known .given .1, rw (e .element2 .ensures, e .before .element .ensures) at refused)
+
+cast-t8 : tie.Need-cast-t8
+cast-t8 c = omega (arith, allowed-fits _ _ _ (sym (c .before .allowed .ensures) ∙ not-false _ (c .if1 .left)))
+
+cast-t9 : tie.Need-cast-t9
+cast-t9 c = omega (arith, allowed-fits _ _ _ (sym (c .before .allowed .ensures) ∙ not-false _ (c .if1 .left)))
+
 element-requires-3 : tie.Need-element-requires-3
 element-requires-3 c κs = search needs
 
@@ -37,20 +56,22 @@ element-requires-5 c κs = search needs
 element-requires-6 : tie.Need-element-requires-6
 element-requires-6 c κs = search needs
 
-returns-2 : tie.Need-returns-2
+returns-3 : tie.Need-returns-3
 unfolding openingOf openedBy knownOf
-returns-2 c =
-    let e = c .before .before .before in
-    let k = e .before .before .before .before in
-    let whole = element-whole _ (k .before .before .before .pre) in
+returns-3 c =
+    let f = c .before .before .before in
+    let t = f .before in
+    let e = t .before .before in
+    let fine = sym (t .before .allowed .ensures) ∙ not-false _ (t .if1 .left) in
     rw (
-      k .known .given .1,
-      e .before .before .element .ensures ∙ whole 0,
-      e .before .element2 .ensures ∙ whole 1,
-      e .element3 .ensures ∙ whole 2,
-      c .before .before .element4 .ensures ∙ whole 3,
-      c .before .element5 .ensures ∙ whole 4,
-      c .element6 .ensures ∙ whole 5,
+      e .before .before .before .known .given .1,
+      rw (e .element2 .ensures, e .before .element .ensures) at fine,
+      e .before .element .ensures,
+      e .element2 .ensures,
+      f .element3 .ensures,
+      c .before .before .element4 .ensures,
+      c .before .element5 .ensures,
+      c .element6 .ensures,
     )
 
 pub opened-by-spec : {M : Type 1} → statement M
@@ -62,8 +83,12 @@ opened-by-spec =
     returns
     element-requires
     element-requires-2
+    allowed-requires
+    returns-2
+    cast-t8
+    cast-t9
     element-requires-3
     element-requires-4
     element-requires-5
     element-requires-6
-    returns-2)
+    returns-3)

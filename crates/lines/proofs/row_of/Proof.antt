@@ -1,9 +1,7 @@
 -- `lines::row_of` meets its contract: each column is a number of the line.
 -- Assumes nothing.
-use mathlib.Core.Path.{_∙_}
 use borrow.Author.Needs.{needs}
 use Rattle.memory.specs.Rows.{rowWith}
-use Rattle.lines.proofs.Parse.{element-whole}
 use Rattle.lines.proofs.row_of.Statement.{statement}
 use Rattle.lines.proofs.row_of.Tie as tie
 
@@ -29,14 +27,13 @@ returns : tie.Need-returns
 unfolding rowWith
 returns c =
     let e = c .before .before .before in
-    let whole = element-whole _ (e .before .before .before .before .pre) in
     rw (
-      e .before .before .element .ensures ∙ whole 0,
-      e .before .element2 .ensures ∙ whole 1,
-      e .element3 .ensures ∙ whole 2,
-      c .before .before .element4 .ensures ∙ whole 3,
-      c .before .element5 .ensures ∙ whole 4,
-      c .element6 .ensures ∙ whole 5,
+      e .before .before .element .ensures,
+      e .before .element2 .ensures,
+      e .element3 .ensures,
+      c .before .before .element4 .ensures,
+      c .before .element5 .ensures,
+      c .element6 .ensures,
     )
 
 pub row-of-spec : {M : Type 1} → statement M

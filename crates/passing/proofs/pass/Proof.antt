@@ -1,7 +1,7 @@
 -- `passing::pass` meets its contract: field by field.
 -- Assumes nothing.
-use borrow.Author.Needs.{needs}
 use Rattle.memory.specs.Step.{pass}
+use borrow.Author.Needs.{needs}
 use Rattle.passing.proofs.pass.Statement.{statement}
 use Rattle.passing.proofs.pass.Tie as tie
 
@@ -26,11 +26,17 @@ depths-requires c κs = search needs
 inputs-requires : tie.Need-inputs-requires
 inputs-requires c κs = search needs
 
+cast-raise : tie.Need-cast-raise
+cast-raise c = search needs
+
 raise-requires-4 : tie.Need-raise-requires-4
 raise-requires-4 c κs = search needs
 
 mults-requires : tie.Need-mults-requires
 mults-requires c κs = search needs
+
+cast-raise-2 : tie.Need-cast-raise-2
+cast-raise-2 c = search needs
 
 raise-requires-5 : tie.Need-raise-requires-5
 raise-requires-5 c κs = search needs
@@ -71,7 +77,9 @@ pass-spec =
     raise-requires-3
     depths-requires
     inputs-requires
+    cast-raise
     raise-requires-4
     mults-requires
+    cast-raise-2
     raise-requires-5
     returns)

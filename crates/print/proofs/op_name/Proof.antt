@@ -11,14 +11,11 @@ use Rattle.print.proofs.op_name.Tie as tie
 code-requires : tie.Need-code-requires
 code-requires c κs = search needs
 
-cast-k : tie.Need-cast-k
-cast-k c = search needs
-
 mul-from : tie.Need-mul-from
-mul-from c = search needs
+mul-from c = let named = name-at _ (c .code .ensures) in omega (arith, named .inside)
 
 mul-end : tie.Need-mul-end
-mul-end c = search needs
+mul-end c = let named = name-at _ (c .code .ensures) in omega (arith, named .inside)
 
 array-read-end : tie.Need-array-read-end
 array-read-end c = name-at _ (c .code .ensures) .inside
@@ -50,7 +47,6 @@ op-name-spec =
     tie.close
     (tie.spec
     code-requires
-    cast-k
     mul-from
     mul-end
     array-read-end

@@ -2,19 +2,17 @@
 -- Assumes nothing.
 use borrow.Author.Needs.{needs}
 use Rattle.field.specs.Field.{mulOf}
+use Rattle.field.specs.Moduli.{modulusOf}
 use Rattle.records.proofs.Reduced.{pair-factor}
 use Rattle.records.proofs.by_pair.Statement.{statement}
 use Rattle.records.proofs.by_pair.Tie as tie
 
-pair-requires : tie.Need-pair-requires
-pair-requires c κs = search needs
-
-mul-requires : tie.Need-mul-requires
-mul-requires c κs = search needs
+by-pair-requires : tie.Need-by-pair-requires
+by-pair-requires c κs = search needs
 
 returns : tie.Need-returns
 unfolding mulOf
-returns c = simp (c .mul .ensures, c .before .pair .ensures, pair-factor (c .before .before .args .ch))
+returns c = let a = c .before .args in simp (c .by-pair .ensures, pair-factor (modulusOf (a .k)) (a .ch))
 
 pub by-pair-spec : {M : Type 1} → statement M
-by-pair-spec = tie.close (tie.spec pair-requires mul-requires returns)
+by-pair-spec = tie.close (tie.spec by-pair-requires returns)

@@ -6,15 +6,12 @@ use Rattle.memory.specs.Equations.{triple, factor}
 use Rattle.records.proofs.by_triple.Statement.{statement}
 use Rattle.records.proofs.by_triple.Tie as tie
 
-triple-requires : tie.Need-triple-requires
-triple-requires c κs = search needs
-
-mul-requires : tie.Need-mul-requires
-mul-requires c κs = search needs
+by-triple-requires : tie.Need-by-triple-requires
+by-triple-requires c κs = search needs
 
 returns : tie.Need-returns
 unfolding mulOf tripleOf triple factor
-returns c = simp (c .mul .ensures, c .before .triple .ensures)
+returns c = c .by-triple .ensures
 
 pub by-triple-spec : {M : Type 1} → statement M
-by-triple-spec = tie.close (tie.spec triple-requires mul-requires returns)
+by-triple-spec = tie.close (tie.spec by-triple-requires returns)

@@ -2,7 +2,7 @@
 -- Assumes nothing.
 use Prim.Native.Nat.{ℕ}
 use mathlib.Core.Path.{sym, _∙_, ap}
-use Rattle.field.specs.Field.{p}
+use Rattle.field.specs.Moduli.{modulusOf}
 use Rattle.memory.specs.Step.{refusedState, openedOf}
 use Rattle.lines.specs.declared.Opened.{Opened}
 use Rattle.lines.specs.Answers.{openingOf}
@@ -30,10 +30,12 @@ returns : tie.Need-returns
 unfolding openedOf openingOf shutNumber
 returns c =
     let told = c .before .before .enum-told .given .1 in
+    let value = c .before .before .before .before in
+    let q = modulusOf (value .before .before .args .k) in
     c .refused .ensures
     ∙ ap (λ (f : ℕ). refusedState f 2) (c .before .shut-number .ensures ∙ ap shutNumber told)
-    ∙ ap (λ (x : Opened). openedOf p (openingOf x)) (sym told)
-    ∙ ap (openedOf p) (c .before .before .before .before .value-line .ensures)
+    ∙ ap (λ (x : Opened). openedOf q (openingOf x)) (sym told)
+    ∙ ap (openedOf q) (value .value-line .ensures)
 
 fresh-requires : tie.Need-fresh-requires
 fresh-requires c κs = search needs
@@ -41,9 +43,11 @@ fresh-requires c κs = search needs
 returns-2 : tie.Need-returns-2
 unfolding openedOf openingOf
 returns-2 c =
+    let value = c .before .before .before .before in
+    let q = modulusOf (value .before .before .args .k) in
     c .fresh .ensures
-    ∙ ap (λ (x : Opened). openedOf p (openingOf x)) (sym (c .before .before .read .given .1))
-    ∙ ap (openedOf p) (c .before .before .before .before .value-line .ensures)
+    ∙ ap (λ (x : Opened). openedOf q (openingOf x)) (sym (c .before .before .read .given .1))
+    ∙ ap (openedOf q) (value .value-line .ensures)
 
 pub opened-spec : {M : Type 1} → statement M
 opened-spec =

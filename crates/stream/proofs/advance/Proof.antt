@@ -1,8 +1,9 @@
 -- `stream::advance` meets its contract.
 -- Assumes nothing.
+use mathlib.Core.Path.{refl}
 use native.Mathlib.Omega.{arith}
 use lib.ListN.{length-take}
-use Rattle.field.specs.Field.{p}
+use Rattle.field.specs.Moduli.{modulusOf}
 use Rattle.memory.specs.Stream.{lineOf}
 use Rattle.memory.proofs.Stream.{cut-line}
 use Rattle.pieces.proofs.Calls.{advanced}
@@ -37,8 +38,11 @@ returns c =
     let end = c .before .before .before .before .before .before .before .smaller in
     let a = c .before .before .before .before .before .before .before .before .before .args in
     let keep = c .before .before .keep in
-    advanced (lineOf p) (cut-line p) (a .progress .stand) (a .filled) (a .buf .now) (end .result) (end .ensures) (taken .result .stand) (taken .result .used)
-    (taken .ensures) (keep .result) (keep .ensures .0) (keep .last .0) (keep .ensures .1)
+    let q = modulusOf (a .progress .field) in (
+      advanced (lineOf q) (cut-line q) (a .progress .stand) (a .filled) (a .buf .now) (end .result) (end .ensures) (taken .result .stand) (taken .result .used)
+          (taken .ensures) (keep .result) (keep .ensures .0) (keep .last .0) (keep .ensures .1),
+      refl,
+    )
 
 pub advance-spec : {M : Type 1} → statement M
 advance-spec =

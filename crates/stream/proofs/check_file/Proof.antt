@@ -6,7 +6,7 @@ use mathlib.Core.Path.{_∙_, ap}
 use mathlib.Core.List.{List}
 use lib.ListN.{length, drop, length-drop}
 use lib.Seq.{take-all}
-use Rattle.field.specs.Field.{p}
+use Rattle.field.specs.Moduli.{modulusOf}
 use Rattle.memory.specs.Pieces.{piece}
 use Rattle.memory.specs.Stream.{finishOf}
 use Rattle.stream.proofs.File.{whole-file}
@@ -34,14 +34,15 @@ report-requires c κs = search needs
 
 returns : tie.Need-returns
 returns c =
-    let file = c .before .before .before .before .before .args .file .now in
+    let a = c .before .before .before .before .before .args in
+    let file = a .file .now in
     let taken = c .before .before .lines-in in
     let start = c .before .before .before .start in
     let used = taken .result .used in
     let all : length (drop used file) ≤ length file - used = omega (arith, length-drop used file) in
     c .report .ensures
-    ∙ ap (λ (t : List ℕ). finishOf p (piece (taken .result .stand) t)) (take-all (length file - used) (drop used file) all)
-    ∙ whole-file file (start .result) (start .ensures) (taken .result .stand) used (taken .ensures)
+    ∙ ap (λ (t : List ℕ). finishOf (modulusOf (a .field)) (piece (taken .result .stand) t)) (take-all (length file - used) (drop used file) all)
+    ∙ whole-file _ file (start .result) (start .ensures .0) (taken .result .stand) used (taken .ensures)
 
 pub check-file-spec : {M : Type 1} → statement M
 check-file-spec =

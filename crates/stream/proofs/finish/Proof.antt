@@ -5,7 +5,7 @@ use native.Mathlib.Omega.{arith}
 use mathlib.Core.Path.{_∙_, ap}
 use mathlib.Core.List.{List}
 use lib.ListN.{take, length-take}
-use Rattle.field.specs.Field.{p}
+use Rattle.field.specs.Moduli.{modulusOf}
 use Rattle.memory.specs.Pieces.{piece}
 use Rattle.memory.specs.Stream.{finishOf}
 use Rattle.pieces.specs.Calls.{standsFor}
@@ -29,9 +29,10 @@ returns : tie.Need-returns
 unfolding standsFor leftBy
 returns c =
     let a = c .before .before .before .before .args in
+    let q = modulusOf (a .progress .field) in
     c .report .ensures
-    ∙ ap (λ (n : ℕ). finishOf p (piece (a .progress .stand) (take n (a .buf .now)))) (c .before .before .smaller .ensures)
-    ∙ ap (λ (t : List ℕ). finishOf p (piece (a .progress .stand) t)) (take-within (a .progress .kept) (a .buf .now))
+    ∙ ap (λ (n : ℕ). finishOf q (piece (a .progress .stand) (take n (a .buf .now)))) (c .before .before .smaller .ensures)
+    ∙ ap (λ (t : List ℕ). finishOf q (piece (a .progress .stand) t)) (take-within (a .progress .kept) (a .buf .now))
 
 pub finish-spec : {M : Type 1} → statement M
 finish-spec = tie.close (tie.spec smaller-requires slice-aggregate-report report-requires returns)

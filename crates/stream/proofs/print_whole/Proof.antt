@@ -1,7 +1,7 @@
 -- `stream::print_whole` meets its contract: the text has room for any report.
 -- Assumes nothing.
 use native.Mathlib.Omega.{arith}
-use Rattle.field.specs.Field.{p}
+use Rattle.field.specs.Moduli.{modulusOf}
 use Rattle.memory.specs.Stream.{finishOf}
 use Rattle.memory.specs.Print.{reportText}
 use Rattle.memory.proofs.ReportLength.{report-short}
@@ -18,7 +18,7 @@ print-end-requires c κs = search needs
 returns : tie.Need-returns
 returns c =
     let a = c .before .before .before .args in
-    let report = finishOf p (standsFor (leftBy (a .progress) (a .buf .now))) in
+    let report = finishOf (modulusOf (a .progress .field)) (standsFor (leftBy (a .progress) (a .buf .now))) in
     let put = c .print-end .ensures in
     let fits = put-whole (a .text .now) (reportText report) (omega (arith, report-short report)) put in
     (put .0, (put .1, (fits .0, search needs)))

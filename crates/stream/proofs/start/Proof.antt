@@ -1,5 +1,6 @@
 -- `stream::start` meets its contract.
 -- Assumes nothing.
+use mathlib.Core.Path.{refl}
 use borrow.Author.Needs.{needs}
 use Rattle.memory.specs.Stream.{stand, unopened}
 use Rattle.stream.specs.Progress.{begun}
@@ -11,7 +12,7 @@ refused-requires c κs = search needs
 
 returns : tie.Need-returns
 unfolding begun unopened stand
-returns c = simp (c .refused .ensures)
+returns c = (simp (c .refused .ensures), refl)
 
 pub start-spec : {M : Type 1} → statement M
 start-spec = tie.close (tie.spec refused-requires returns)

@@ -75,8 +75,8 @@ returns c =
     let start = c .before .before .before .before .before .before .before .before .before in
     let l = c .before .before .before .before .before .before .before .loop in
     let written-digits : List ℕ = set (l .digits) (l .first) (48 + l .left) in
-    let text : take (10 - l .first) (drop (l .first) written-digits) ≡ numberText (start .args .n) =
-    take-all (10 - l .first) (drop (l .first) written-digits)
+    let text : take (20 - l .first) (drop (l .first) written-digits) ≡ numberText (start .args .n) =
+    take-all (20 - l .first) (drop (l .first) written-digits)
     (omega (arith, length-drop (l .first) written-digits, length-set (l .digits) (l .first) (48 + l .left), l .inv .size))
     ∙ laid-last (l .inv) (omega (arith, c .before .before .before .before .before .before .loop-test .left))
     in (

@@ -15,6 +15,9 @@ enum-told c = search needs
 end-place-requires : tie.Need-end-place-requires
 end-place-requires c κs = search needs
 
+cast-by-triple : tie.Need-cast-by-triple
+cast-by-triple c = search needs
+
 by-triple-requires : tie.Need-by-triple-requires
 by-triple-requires c κs = search needs
 
@@ -23,6 +26,9 @@ enum-told-2 c = search needs
 
 end-place-requires-2 : tie.Need-end-place-requires-2
 end-place-requires-2 c κs = search needs
+
+cast-by-triple-2 : tie.Need-cast-by-triple-2
+cast-by-triple-2 c = search needs
 
 by-triple-requires-2 : tie.Need-by-triple-requires-2
 by-triple-requires-2 c κs = search needs
@@ -38,6 +44,9 @@ enum-told-4 c = search needs
 
 end-place-requires-3 : tie.Need-end-place-requires-3
 end-place-requires-3 c κs = search needs
+
+cast-add : tie.Need-cast-add
+cast-add c = search needs
 
 add-requires : tie.Need-add-requires
 add-requires c κs = search needs
@@ -77,14 +86,17 @@ end-read-spec =
     (tie.spec
     enum-told
     end-place-requires
+    cast-by-triple
     by-triple-requires
     enum-told-2
     end-place-requires-2
+    cast-by-triple-2
     by-triple-requires-2
     enum-told-3
     by-pair-requires
     enum-told-4
     end-place-requires-3
+    cast-add
     add-requires
     by-triple-requires-3
     enum-told-5

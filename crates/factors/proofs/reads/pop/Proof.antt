@@ -14,6 +14,9 @@ use Rattle.factors.proofs.Dequeued.{nothing-dequeued}
 use Rattle.factors.proofs.reads.pop.Statement.{statement}
 use Rattle.factors.proofs.reads.pop.Tie as tie
 
+cast-add : tie.Need-cast-add
+cast-add c = search needs
+
 add-requires : tie.Need-add-requires
 add-requires c κs = search needs
 
@@ -37,7 +40,7 @@ returns c =
     let c4 = c3 .before in
     let c5 = c4 .before in
     let c6 = c5 .before in
-    let c7 = c6 .before in
+    let c7 = c6 .before .before in
     let e = c7 .pre in
     simp (
       ne-eqb _ _ (c .if1 .taken),
@@ -51,6 +54,12 @@ returns c =
       minus-reduced,
     )
 
+cast-sub : tie.Need-cast-sub
+cast-sub c = search needs
+
+cast-sub-2 : tie.Need-cast-sub-2
+cast-sub-2 c = search needs
+
 sub-requires : tie.Need-sub-requires
 sub-requires c κs = search needs
 
@@ -61,13 +70,13 @@ returns-2 : tie.Need-returns-2
 unfolding plus addOf subOf multiply multiplied writtenBy readBy suppliedBy lookedBy lookupsBy enqueuedBy hashFrom isOp opCode popRead popLookup rangeRead rangeWrite
 returns-2 c =
     let c1 = c .before in
-    let c2 = c1 .before in
+    let c2 = c1 .before .before .before in
     let c4 = c2 .before .before in
     let c5 = c4 .before in
     let c6 = c5 .before in
     let c7 = c6 .before in
     let c8 = c7 .before in
-    let c9 = c8 .before in
+    let c9 = c8 .before .before in
     let e = c9 .pre in
     simp (
       c .by-triple .ensures,
@@ -87,12 +96,15 @@ pub pop-spec : {M : Type 1} → statement M
 pop-spec =
     tie.close
     (tie.spec
+    cast-add
     add-requires
     age-requires
     add-requires-2
     by-pair-requires
     by-pair-requires-2
     returns
+    cast-sub
+    cast-sub-2
     sub-requires
     by-triple-requires
     returns-2)

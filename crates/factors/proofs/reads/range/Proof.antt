@@ -16,6 +16,9 @@ use Rattle.factors.proofs.reads.range.Tie as tie
 range-place-requires : tie.Need-range-place-requires
 range-place-requires c κs = search needs
 
+cast-add : tie.Need-cast-add
+cast-add c = search needs
+
 add-requires : tie.Need-add-requires
 add-requires c κs = search needs
 
@@ -46,4 +49,4 @@ returns c =
 pub range-spec : {M : Type 1} → statement M
 range-spec =
     tie.close
-    (tie.spec range-place-requires add-requires by-pair-requires by-pair-requires-2 returns)
+    (tie.spec range-place-requires cast-add add-requires by-pair-requires by-pair-requires-2 returns)

@@ -50,11 +50,8 @@ sub-looked c = let taken = c .before .before .before .before .before .pre .taken
 sub-looked-2 : tie.Need-sub-looked-2
 sub-looked-2 c = let taken = c .before .before .before .before .before .pre .taken (c .before .before .before .if1 .left) in omega arith
 
-cast-looked : tie.Need-cast-looked
-cast-looked c = search needs
-
 add-looked : tie.Need-add-looked
-add-looked c = search needs
+add-looked c = let taken = c .before .before .before .before .before .pre .taken (c .before .before .before .if1 .left) in omega (arith, taken .countable .inside)
 
 looked-requires-2 : tie.Need-looked-requires-2
 looked-requires-2 c κs = let taken = c .before .before .before .before .before .before .pre .taken (c .before .before .before .before .if1 .left) in (taken .countable .inside, taken .countable .low)
@@ -84,7 +81,6 @@ pop-spec =
     mul-looked-2
     sub-looked
     sub-looked-2
-    cast-looked
     add-looked
     looked-requires-2
     same-length-2

@@ -8,9 +8,6 @@ use borrow.Author.Needs.{needs}
 use Rattle.filler.proofs.steps.ram.Statement.{statement}
 use Rattle.filler.proofs.steps.ram.Tie as tie
 
-cast-cell : tie.Need-cast-cell
-cast-cell c = search needs
-
 mul-old : tie.Need-mul-old
 mul-old c = search needs
 
@@ -34,9 +31,6 @@ sub-looked c = search needs
 
 sub-looked-2 : tie.Need-sub-looked-2
 sub-looked-2 c = search needs
-
-cast-looked : tie.Need-cast-looked
-cast-looked c = search needs
 
 add-looked : tie.Need-add-looked
 add-looked c = search needs
@@ -64,7 +58,7 @@ slice-write-scratch-2 c = simp length-set (omega arith)
 
 add-t12 : tie.Need-add-t12
 unfolding limit
-add-t12 c = omega (arith, c .before .before .before .before .before .before .before .before .before .before .before .pre .early)
+add-t12 c = omega (arith, c .before .before .before .before .before .before .before .before .before .before .pre .early)
 
 same-length : tie.Need-same-length
 same-length c = search needs
@@ -77,7 +71,6 @@ pub ram-spec : {M : Type 1} → statement M
 ram-spec =
     tie.close
     (tie.spec
-    cast-cell
     mul-old
     slice-read-old
     add-time
@@ -86,7 +79,6 @@ ram-spec =
     mul-looked
     sub-looked
     sub-looked-2
-    cast-looked
     add-looked
     looked-requires
     chosen-requires

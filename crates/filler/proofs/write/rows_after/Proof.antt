@@ -24,6 +24,7 @@ operations-requires c κs = let f = c .before .before .before .before .before .b
     operating = f .operating;
     out-room = f .out-room;
     scratch-room = omega (arith, f .scratch-room);
+    modulus = f .modulus;
     clean = f .clean;
   },
   c .before .before .before .before .before .before .pre .1,

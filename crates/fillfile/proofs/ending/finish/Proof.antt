@@ -20,7 +20,7 @@ same-length c = search needs
 returns : tie.Need-returns
 returns c =
     let a = c .before .before .before .before .before .before .before .before .before .before .before .args in
-    ended-refused (a .intake) (a .words .now) (a .out .now) (a .scratch .now) (a .text .now) (c .before .before .before .before .before .before .ended .ensures) (c .before .before .before .before .if1 .taken) (c .before .before .refusal .ensures)
+    ended-refused _ (a .intake) (a .words .now) (a .out .now) (a .scratch .now) (a .text .now) (c .before .before .before .before .before .before .ended .ensures) (c .before .before .before .before .if1 .taken) (c .before .before .refusal .ensures)
 
 due-requires : tie.Need-due-requires
 due-requires c κs = search needs
@@ -58,9 +58,9 @@ returns-2 : tie.Need-returns-2
 returns-2 c =
     let a = c .before .before .before .before .before .before .before .before .before .before .before .before .before .before .before .before .before .before .before .before .before .before .before .args in
     let fill = c .before .before .before .before .before .before .before .before .before .fill in
-    ended-filled (a .intake) (a .words .now) (a .out .now) (a .scratch .now) (a .text .now) (c .before .before .before .before .before .before .before .before .before .before .before .before .before .before .before .before .before .before .ended .ensures) (c .before .before .before .before .before .before .before .before .before .before .before .before .before .before .before .before .if1 .left)
+    ended-filled _ (a .intake) (a .words .now) (a .out .now) (a .scratch .now) (a .text .now) (c .before .before .before .before .before .before .before .before .before .before .before .before .before .before .before .before .before .before .ended .ensures) (c .before .before .before .before .before .before .before .before .before .before .before .before .before .before .before .before .if1 .left)
     (c .before .before .before .before .before .before .before .before .before .before .before .before .before .before .before .due .result) (c .before .before .before .before .before .before .before .before .before .before .before .before .before .before .smaller .result) (c .before .before .before .before .before .before .before .before .before .before .before .before .before .code .result) (c .before .before .before .before .before .before .before .before .before .before .before .before .before .before .before .due .ensures) (c .before .before .before .before .before .before .before .before .before .before .before .before .before .before .smaller .ensures) (c .before .before .before .before .before .before .before .before .before .before .before .before .before .code .ensures)
-    (fill .result) (fill .last .1 .1 .1 .1 .0) (fill .last .1 .1 .1 .1 .1 .0) (fill .ensures) (c .before .before .answer .ensures)
+    (fill .result) (fill .last .1 .1 .1 .1 .1 .0) (fill .last .1 .1 .1 .1 .1 .1 .0) (fill .ensures) (c .before .before .answer .ensures)
 
 pub finish-spec : {M : Type 1} → statement M
 finish-spec =

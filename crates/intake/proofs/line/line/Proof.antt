@@ -1,7 +1,6 @@
 -- `intake::line::line` meets its contract.
 -- Assumes nothing.
 use mathlib.Core.Path.{_∙_, ap}
-use Rattle.field.specs.Field.{p}
 use Rattle.runs.specs.declared.Intake.{Intake}
 use Rattle.runs.specs.FillStream.{gathered}
 use Rattle.intake.proofs.Places.{line-refused, line-one, line-two, line-three, line-row}
@@ -11,7 +10,7 @@ use Rattle.intake.proofs.line.line.Statement.{statement}
 use Rattle.intake.proofs.line.line.Tie as tie
 
 returns : tie.Need-returns
-returns c = line-refused p _ _ _ (c .if1 .taken)
+returns c = line-refused _ _ _ _ (c .if1 .taken)
 
 fill-names-line-requires : tie.Need-fill-names-line-requires
 fill-names-line-requires c κs = search needs
@@ -35,19 +34,19 @@ returns-2 : tie.Need-returns-2
 returns-2 c =
     let a = c .before .before .before .before .before .before .before .args in
     ap (λ (i : Intake). gathered i (a .words .now)) (c .named .ensures ∙ ap (namedTaken (a .intake) 1) (c .before .fill-names-line .ensures))
-    ∙ line-one p (a .intake) (a .words .now) _ (c .before .before .before .if1 .left) (c .before .before .match .keys1)
+    ∙ line-one _ (a .intake) (a .words .now) _ (c .before .before .before .if1 .left) (c .before .before .match .keys1)
 
 returns-3 : tie.Need-returns-3
 returns-3 c =
     let a = c .before .before .before .before .before .before .args in
     ap (λ (i : Intake). gathered i (a .words .now)) (c .opened .ensures)
-    ∙ line-two p (a .intake) (a .words .now) _ (c .before .before .if1 .left) (c .before .match .keys2)
+    ∙ line-two _ (a .intake) (a .words .now) _ (c .before .before .if1 .left) (c .before .match .keys2)
 
 returns-4 : tie.Need-returns-4
 returns-4 c =
     let a = c .before .before .before .before .before .before .before .args in
     ap (λ (i : Intake). gathered i (a .words .now)) (c .named2 .ensures ∙ ap (namedTaken (a .intake) 3) (c .before .input-names-line .ensures))
-    ∙ line-three p (a .intake) (a .words .now) _ (c .before .before .before .if1 .left) (c .before .before .match .keys3)
+    ∙ line-three _ (a .intake) (a .words .now) _ (c .before .before .before .if1 .left) (c .before .before .match .keys3)
 
 same-length : tie.Need-same-length
 same-length c = search needs
@@ -57,7 +56,7 @@ returns-5 c =
     let a = c .before .before .before .before .before .before .before .before .before .args in
     let none = c .before .before .before .before .match .rest in
     c .before .before .row .ensures
-    ∙ line-row p (a .intake) (a .words .now) _ (c .before .before .before .before .before .if1 .left) (none .0 .0 .1) (none .0 .1) (none .1)
+    ∙ line-row _ (a .intake) (a .words .now) _ (c .before .before .before .before .before .if1 .left) (none .0 .0 .1) (none .0 .1) (none .1)
 
 pub line-spec : {M : Type 1} → statement M
 line-spec =

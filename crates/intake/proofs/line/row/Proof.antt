@@ -25,7 +25,7 @@ returns : tie.Need-returns
 returns c =
     let a = c .before .before .before .before .before .before .args in
     ap (λ (i : Intake). gathered i (a .words .now)) (c .refuse-row .ensures)
-    ∙ row-surplus (a .intake) (a .words .now) _ (omega (arith, c .before .before .before .due .ensures, c .before .if1 .taken))
+    ∙ row-surplus _ (a .intake) (a .words .now) _ (omega (arith, c .before .before .before .due .ensures, c .before .if1 .taken))
 
 input-line-requires : tie.Need-input-line-requires
 input-line-requires c κs = search needs
@@ -48,7 +48,7 @@ returns-2 c =
     let a = c .before .before .before .before .before .before .before .before .before .before .args in
     let told = c .before .before .enum-told .given .1 in
     ap (λ (i : Intake). gathered i (a .words .now)) (c .refuse-row2 .ensures ∙ ap (refuseRow (a .intake)) (c .before .given-fault .ensures ∙ ap givenFault told))
-    ∙ row-faulty (a .intake) (a .words .now) _ (omega (arith, c .before .before .before .before .before .before .before .due .ensures, c .before .before .before .before .before .if1 .left))
+    ∙ row-faulty _ (a .intake) (a .words .now) _ (omega (arith, c .before .before .before .before .before .before .before .due .ensures, c .before .before .before .before .before .if1 .left))
     (ap givenOf (sym told) ∙ c .before .before .before .before .input-line .ensures)
 
 take-requires : tie.Need-take-requires
@@ -62,7 +62,7 @@ unfolding givenRow givenOf
 returns-3 c =
     let a = c .before .before .before .before .before .before .before .before .before .before .before .before .before .args in
     c .before .before .take .ensures
-    ∙ row-due (a .intake) (a .words .now) _ (omega (arith, c .before .before .before .before .before .before .before .before .before .before .due .ensures, c .before .before .before .before .before .before .before .before .if1 .left))
+    ∙ row-due _ (a .intake) (a .words .now) _ (omega (arith, c .before .before .before .before .before .before .before .before .before .before .due .ensures, c .before .before .before .before .before .before .before .before .if1 .left))
     (ap givenOf (sym (c .before .before .before .before .before .read .given .1)) ∙ c .before .before .before .before .before .before .before .input-line .ensures)
 
 pub row-spec : {M : Type 1} → statement M

@@ -23,7 +23,7 @@ returns : tie.Need-returns
 returns c =
     let a = c .before .before .before .before .before .args in
     ap (λ (i : Intake). gathered i (a .words .now)) (c .refuse-row .ensures)
-    ∙ input-refused (a .op) (a .guard) (a .addr) (a .value) (a .intake) (a .words .now) (c .before .before .fault .ensures) (c .before .if1 .taken)
+    ∙ input-refused _ (a .op) (a .guard) (a .addr) (a .value) (a .intake) (a .words .now) (c .before .before .fault .ensures) (c .before .if1 .taken)
 
 store-row-requires : tie.Need-store-row-requires
 store-row-requires c κs = search needs
@@ -42,7 +42,7 @@ returns-2 c =
     let code = c .before .before .before .before .before .before .before .code .ensures in
     ap (λ (k : ℕ). gathered (record { place = i .place; memory = i .memory; size = i .size; count = i .count; passed = k; answer = i .answer; line = i .line }) (c .before .before .before .store-row .last .0)) (c .raise .ensures)
     ∙ ap (gathered (passRow i)) (c .before .before .before .store-row .ensures ∙ ap (λ (n : ℕ). storedWords (a .words .now) (i .passed) n (a .guard) (a .addr) (a .value)) code)
-    ∙ input-stored (a .op) (a .guard) (a .addr) (a .value) i (a .words .now) (c .before .before .before .before .before .before .fault .ensures) (c .before .before .before .before .before .if1 .left)
+    ∙ input-stored _ (a .op) (a .guard) (a .addr) (a .value) i (a .words .now) (c .before .before .before .before .before .before .fault .ensures) (c .before .before .before .before .before .if1 .left)
 
 pub take-spec : {M : Type 1} → statement M
 take-spec =

@@ -5,7 +5,7 @@ use native.Mathlib.Omega.{arith}
 use mathlib.Core.Path.{_≡_, refl}
 use mathlib.Core.List.{[]}
 use lib.ListN.{length, take, drop, length-drop}
-use Rattle.field.specs.Field.{p}
+use Rattle.field.specs.Moduli.{modulusOf}
 use Rattle.memory.specs.Pieces.{piece, bytesIn}
 use Rattle.memory.specs.Stream.{lineOf}
 use Rattle.memory.proofs.Stream.{cut-line}
@@ -15,11 +15,11 @@ use Rattle.stream.proofs.block.lines_in.Statement.{statement}
 use Rattle.stream.proofs.block.lines_in.Tie as tie
 
 abbrev Inv-loop : tie.InvT-loop
-Inv-loop stand₀ block used₀ at₀ stand used at =
-    (used ≤ length block) × (bytesIn (lineOf p) (piece stand₀ []) (take used block) ≡ piece stand []) × (at ≡ used + untilFeed (drop used block))
+Inv-loop k stand₀ block used₀ at₀ stand used at =
+    (used ≤ length block) × (bytesIn (lineOf (modulusOf k)) (piece stand₀ []) (take used block) ≡ piece stand []) × (at ≡ used + untilFeed (drop used block))
 
 abbrev μ-loop : tie.MeasureT-loop
-μ-loop stand₀ block used₀ at₀ stand used at = length block - used
+μ-loop k stand₀ block used₀ at₀ stand used at = length block - used
 
 feed-from-requires : tie.Need-feed-from-requires Inv-loop μ-loop
 feed-from-requires c κs = tt
@@ -55,7 +55,8 @@ loop-again c =
     let l = turn .before .loop in
     let a = turn .before .before .before .before .args in
     let next = c .before .line in
-    let more = lines-more (lineOf p) (cut-line p) (a .stand) (l .stand) (next .result) (a .block .now) (l .used) (l .at) in
+    let q = modulusOf (a .k) in
+    let more = lines-more (lineOf q) (cut-line q) (a .stand) (l .stand) (next .result) (a .block .now) (l .used) (l .at) in
     (omega arith, more (l .inv .1) (l .inv .2) (turn .loop-test .taken) (next .ensures), c .feed-from2 .ensures)
 
 returns : tie.Need-returns Inv-loop μ-loop
