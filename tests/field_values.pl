@@ -1,8 +1,8 @@
 #!/usr/bin/perl
 # The values that the program field_cases prints, computed here by a second way: products by the
 # octal digits of one factor, and every sum and difference reduced at once. They are the products of
-# all pairs of edges modulo 2⁶¹ − 1, and digests of every operation of the larger field, and of each
-# of three moduli: on triples of edges, then on blocks of 1,000 random triples of wide numbers and
+# all pairs of edges modulo 2⁶¹ − 1, and digests of every operation of each field, and of each of
+# three moduli: on all triples of edges, then on blocks of 1,000 random triples of wide numbers and
 # as many of narrow ones. Run at the top of the repository: perl tests/field_values.pl [blocks]. It
 # compares that many blocks of the program's stored output, 100 where no number is given, and says
 # which line differs.
@@ -47,23 +47,20 @@ sub step { my ($x) = @_; $x ^= $x << 13; $x ^= $x >> 7; $x ^= $x << 17; return $
 
 sub digest { my ($d, @numbers) = @_; $d = step($d ^ $_) for @numbers; return $d; }
 
-# The operations that the larger field and a modulus have both.
-sub common {
+# What every operation gives: the first number reduced, sum, difference, product, a step of the
+# hash, the factor of a triple and that of a pair.
+sub operations {
     my ($q, $x, $y, $z) = @_;
-    return ($x % $q, plus($q, $x, $y), minus($q, $x, $y), product($q, $x, $y), horner($q, $x, $y, $z));
+    return (
+        $x % $q, plus($q, $x, $y), minus($q, $x, $y), product($q, $x, $y), horner($q, $x, $y, $z),
+        triple($q, $x, $y, $z, $x, $z, $x, $y), pair($q, $x, $y, $z, $x, $y),
+    );
 }
 
-sub larger {
-    my ($d, $x, $y, $z) = @_;
-    my $q = $p61;
-    my @factors = (triple($q, $x, $y, $z, $x, $z, $x, $y), pair($q, $x, $y, $z, $z, $y));
-    return digest($d, $q, common($q, $x, $y, $z), @factors);
-}
-
+# A modulus gives a third number times each factor.
 sub of_modulus {
-    my ($q, $d, $x, $y, $z) = @_;
-    my @factors = (triple($q, $x, $y, $z, $x, $z, $x, $y), pair($q, $x, $y, $z, $z, $y));
-    return digest($d, $q, common($q, $x, $y, $z), map { product($q, $z, $_) } @factors);
+    my ($q, $d, $z, @values) = @_;
+    return digest($d, $q, @values[0 .. 4], map { product($q, $z, $_) } @values[5, 6]);
 }
 
 my $blocks = shift // 100;
@@ -84,24 +81,29 @@ my @edges = (
     2305843009213693950, 2305843009213693951, 2305843009213693952, 4611686018427387902,
     4611686018427387903, 9223372036854775808, 18446744073709551615,
 );
-# The digests of the larger field and of three moduli, and what one triple more makes of them.
-my ($field, $first, $second, $small) = (1, 2, 3, 4);
+# The digests of both fields, each with its modulus and its element count, and of three moduli, and
+# what one triple more makes of them. The smaller field takes the last 32 bits of each number, but
+# reduces the whole first one.
+my ($smaller, $larger, $first, $second, $small) = (1 .. 5);
 
 sub more {
     my ($q, @numbers) = @_;
     $q = 2 if $q < 2;
-    $field = larger($field, @numbers);
-    $first = of_modulus($p31, $first, @numbers);
-    $second = of_modulus($p61, $second, @numbers);
-    $small = of_modulus($q, $small, @numbers);
+    my ($reduced, @narrow) = operations($p31, map { $_ % 4294967296 } @numbers);
+    my @wide = operations($p61, @numbers);
+    $smaller = digest($smaller, $p31, $p31, $numbers[0] % $p31, @narrow);
+    $larger = digest($larger, $p61, $p61, @wide);
+    $first = of_modulus($p31, $first, $numbers[2], operations($p31, @numbers));
+    $second = of_modulus($p61, $second, $numbers[2], @wide);
+    $small = of_modulus($q, $small, $numbers[2], operations($q, @numbers));
 }
 
 for my $x (@edges) {
     for my $j (0 .. 15) {
         expect(product($p61, $x, $edges[$j]));
-        more($j, $x, $edges[$j], $edges[15 - $j]);
+        more($_, $x, $edges[$j], $edges[$_]) for 0 .. 15;
     }
-    expect($_) for $field, $first, $second, $small;
+    expect($_) for $smaller, $larger, $first, $second, $small;
 }
 my $at = 88172645463325252;
 for (1 .. $blocks) {
@@ -112,6 +114,6 @@ for (1 .. $blocks) {
         more($z % 256, $x, $y, $z);
         more($z % 256, map { $_ % 4294967296 } $x, $y, $z);
     }
-    expect($_) for $field, $first, $second, $small;
+    expect($_) for $smaller, $larger, $first, $second, $small;
 }
 print "$lines passed, 0 failed\n";

@@ -184,7 +184,7 @@ file-prime (Small k) named = absurd (true≢false (sym named))
 
 pub file-moduli : FileModuli
 unfolding p p61 modulusOf fileModulus
-file-moduli = ((refl, refl), (refl, refl))
+file-moduli = ((refl, refl), (refl, refl), λ k. (refl, λ two. omega arith))
 
 pub moduli-prime : ModuliPrime
 moduli-prime k named = file-prime k named .0

@@ -9,7 +9,7 @@ use lib.ListN.{length, getD, take, drop}
 use Rattle.algebra.specs.Prime.{Prime}
 use Rattle.field.specs.Field.{p, challengesOf}
 use Rattle.field.specs.declared.moduli.Modulus.{Modulus}
-use Rattle.field.specs.declared.moduli.Modulus.the-variants.{M31, M61}
+use Rattle.field.specs.declared.moduli.Modulus.the-variants.{M31, M61, Small}
 use Rattle.field.specs.Moduli.{modulusOf, fileModulus}
 use Rattle.memory.specs.declared.Memory.{Memory}
 use Rattle.memory.specs.declared.Row.{Row}
@@ -50,11 +50,13 @@ pub record Demand (q : ℕ) (m : Memory) (n t : ℕ) (xs : List Parsed) : Type 0
       malformed q m n t xs ≡ false → right (traceOf m n t (rowsOf xs)) ≡ true → Advised q m n t (rowsOf xs)
       → (ch : Challenge) → elements q ch ≡ true → accepts q m n t xs ch ≡ true
 
--- The moduli of a file: document 01's p, and the larger field's. (Demand: file-moduli)
+-- The moduli of a file: document 01's p, and the larger field's. A small number is none of them,
+-- and from 2 on stands for itself. (Demand: file-moduli)
 abbrev pub FileModuli : Type 0
 FileModuli =
     ((fileModulus M31 ≡ true) × (modulusOf M31 ≡ 2 ^ 31 - 1))
     × ((fileModulus M61 ≡ true) × (modulusOf M61 ≡ 2 ^ 61 - 1))
+    × ((k : ℕ) → (fileModulus (Small k) ≡ false) × (2 ≤ k → modulusOf (Small k) ≡ k))
 
 -- "That p is prime is proved": so is each modulus of a file. (Demand: moduli-prime)
 abbrev pub ModuliPrime : Type 0

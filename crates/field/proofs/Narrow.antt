@@ -1,8 +1,8 @@
 -- Tests that numbers are narrow, and factors of numbers that are reduced first.
 -- Assumes nothing.
 use Prim.Native.Nat.{ℕ, _+_, _*_, _%_, _≤_, _<_}
-use mathlib.Core.Path.{_≡_, refl, ap}
-use mathlib.Core.Bool.{Bool, true, false, _&&_}
+use mathlib.Core.Path.{_≡_, ap}
+use mathlib.Core.Bool.{Bool, true, _&&_, and-eq-true-iff}
 use native.Mathlib.Nat.{mul-le-mul}
 use native.Mathlib.Omega.{arith}
 use lib.Dec.{ltb}
@@ -11,36 +11,33 @@ use Rattle.algebra.specs.Modulo.{minus, times}
 use Rattle.field.specs.Field.{mulOf, tripleOf, pairOf}
 use Rattle.algebra.proofs.Modulo.{same-mod, same-add, same-mul, minus-same, times-same, same-of-eq}
 
-left : (x y : Bool) → (x && y) ≡ true → x ≡ true
-left true y e = refl
-left false y e = e
-
-right : (x y : Bool) → (x && y) ≡ true → y ≡ true
-right true y e = e
-right false y e = absurd (let z : _≡_ {A = ℕ} 0 1 = cc in omega arith)
+-- the first number is narrow, and the test of the others passes
+narrow-first : (w x : ℕ) (others : Bool) → (ltb x w && others) ≡ true → (x < w) × (others ≡ true)
+narrow-first w x others e = let both = and-eq-true-iff (ltb x w) others .0 e in (ltb-true x w (both .0), both .1)
 
 pub two-narrow : (w x y : ℕ) → (ltb x w && ltb y w) ≡ true → (x < w) × (y < w)
-two-narrow w x y e = (ltb-true x w (left _ _ e), ltb-true y w (right (ltb x w) _ e))
+two-narrow w x y e = let f = narrow-first w x _ e in (f .0, ltb-true y w (f .1))
 
 pub three-narrow : (w x y z : ℕ) → (ltb x w && (ltb y w && ltb z w)) ≡ true → (x < w) × ((y < w) × (z < w))
-three-narrow w x y z e = (ltb-true x w (left _ _ e), two-narrow w y z (right (ltb x w) _ e))
+three-narrow w x y z e = let f = narrow-first w x _ e in (f .0, two-narrow w y z (f .1))
 
 pub six-narrow : (w u v x y z t : ℕ) → (ltb u w && (ltb v w && (ltb x w && (ltb y w && (ltb z w && ltb t w))))) ≡ true
     → (u < w) × ((v < w) × ((x < w) × ((y < w) × ((z < w) × (t < w)))))
 six-narrow w u v x y z t e =
-    let e1 = right (ltb u w) _ e in
-    let e2 = right (ltb v w) _ e1 in
-    let e3 = right (ltb x w) _ e2 in
-    (ltb-true u w (left _ _ e), (ltb-true v w (left _ _ e1), (ltb-true x w (left _ _ e2), three-narrow w y z t e3)))
+    let f = narrow-first w u _ e in
+    let g = narrow-first w v _ (f .1) in
+    let h = narrow-first w x _ (g .1) in
+    (f .0, (g .0, (h .0, three-narrow w y z t (h .1))))
 
 pub eight-narrow : (w r s u v x y z t : ℕ) → (ltb r w && (ltb s w && (ltb u w && (ltb v w && (ltb x w && (ltb y w && (ltb z w && ltb t w))))))) ≡ true
     → (r < w) × ((s < w) × ((u < w) × ((v < w) × ((x < w) × ((y < w) × ((z < w) × (t < w)))))))
 eight-narrow w r s u v x y z t e =
-    let e1 = right (ltb r w) _ e in
-    (ltb-true r w (left _ _ e), (ltb-true s w (left _ _ e1), six-narrow w u v x y z t (right (ltb s w) _ e1)))
+    let f = narrow-first w r _ e in
+    let g = narrow-first w s _ (f .1) in
+    (f .0, (g .0, six-narrow w u v x y z t (g .1)))
 
--- a product of two numbers of 31 bits
-pub product-fits : (a x : ℕ) → a ≤ 2147483647 → x ≤ 2147483647 → a * x ≤ 2147483647 * 2147483647
+-- a product of two numbers of 31 bits is at most (2 ^ 31 − 1) · (2 ^ 31 − 1)
+pub product-fits : (a x : ℕ) → a ≤ 2147483647 → x ≤ 2147483647 → a * x ≤ 4611686014132420609
 product-fits a x ha hx = mul-le-mul {n₁ = a} {m₁ = x} {n₂ = 2147483647} {m₂ = 2147483647} ha hx
 
 -- all factors may be reduced first

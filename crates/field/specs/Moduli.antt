@@ -13,7 +13,7 @@ modulusOf M31 = p
 modulusOf M61 = p61
 modulusOf (Small k) = max k 2
 
--- the moduli that a file can name: p, and the larger field's 2⁶¹ − 1
+-- the moduli of a file: p, and the larger field's 2⁶¹ − 1
 unfoldable pub fileModulus : Modulus → Bool
 fileModulus M31 = true
 fileModulus M61 = true

@@ -132,8 +132,8 @@ impl Field {
         Field::difference(r, Field::product(a, x) + Field::product(b, y))
     }
 
-    // A product times r less a sum, for a product and an r of 31 bits and a sum of three products of
-    // such numbers: the factor is not settled.
+    // A product times the factor r − sum, for a product and an r of 31 bits and a sum of three
+    // products of such numbers: the factor is not settled.
     fn by_less(product: u64, r: u64, sum: u64) -> u64
         requires { ⌜ (product ≤ p) × (r ≤ p) × (sum ≤ 3 * (p * p)) ⌝ }
         ensures { λ s. ⌜ s ≡ mulOf p product (subOf p r sum) ⌝ }

@@ -1,6 +1,6 @@
 // The modulus that a check computes with, and its operations. Elements are u64, and every public
-// operation takes any u64, reduced or not. Each modulus has its own field; nothing is computed here
-// but modulo a small number.
+// operation takes any u64, reduced or not. 2³¹ − 1 and 2⁶¹ − 1 have a field type each; only modulo
+// a small number is anything computed here.
 use crate::Field;
 use crate::wide::Field61;
 ghost use mathlib.Core.Path.{_≡_};

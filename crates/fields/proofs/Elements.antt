@@ -8,10 +8,10 @@ use lib.Dec.{ltb}
 use Rattle.memory.specs.Bytes.{allBelow}
 
 -- numbers and one more are below the modulus if the numbers are and this one is
-pub below-append : (p : ℕ) (vs : List ℕ) (v : ℕ) → allBelow p (vs ++ v ∷ []) ≡ (allBelow p vs && ltb v p)
+pub below-append : (q : ℕ) (vs : List ℕ) (v : ℕ) → allBelow q (vs ++ v ∷ []) ≡ (allBelow q vs && ltb v q)
 unfolding allBelow
-below-append p [] v = and-true (ltb v p)
-below-append p (w ∷ vs) v = ap (λ (t : Bool). ltb w p && t) (below-append p vs v) ∙ assoc (ltb w p) (allBelow p vs) (ltb v p)
+below-append q [] v = and-true (ltb v q)
+below-append q (w ∷ vs) v = ap (λ (t : Bool). ltb w q && t) (below-append q vs v) ∙ assoc (ltb w q) (allBelow q vs) (ltb v q)
   where
     assoc : (a b c : Bool) → (a && (b && c)) ≡ ((a && b) && c)
     assoc true b c = refl

@@ -274,21 +274,21 @@ prepends-some (v ∷ vs) ws = rw (prepends-some vs ws)
 
 -- the numbers that are read after the name, with its key
 unfoldable takenWith : ℕ → ℕ → Option (List ℕ) → Taken
-takenWith p key none = unread
-takenWith p key (some ns) = taken key ns (allBelow p ns)
+takenWith q key none = unread
+takenWith q key (some ns) = taken key ns (allBelow q ns)
 
-taken-cond : (p : ℕ) (test : Bool) (key : ℕ) (ns : List ℕ) → cond test (taken key ns (allBelow p ns)) unread ≡ takenWith p key (cond test (some ns) none)
+taken-cond : (q : ℕ) (test : Bool) (key : ℕ) (ns : List ℕ) → cond test (taken key ns (allBelow q ns)) unread ≡ takenWith q key (cond test (some ns) none)
 unfolding takenWith
-taken-cond p true key ns = refl
-taken-cond p false key ns = refl
+taken-cond q true key ns = refl
+taken-cond q false key ns = refl
 
 -- are what the line is taken apart to, if it fits
 line-is :
-    (p total : ℕ) (text : List ℕ) (ended : Bool) (read : Option (List ℕ))
+    (q total : ℕ) (text : List ℕ) (ended : Bool) (read : Option (List ℕ))
     → length text ≤ 80 → ended ≡ true → readFrom total text (length (first text)) ≡ read
-    → takenWith p (keyOf (first text)) read ≡ fieldsTaken p total (record { text = text; ended = ended })
+    → takenWith q (keyOf (first text)) read ≡ fieldsTaken q total (record { text = text; ended = ended })
 unfolding fieldsTaken readable fitting longest numbersOf
-line-is p total text ended read fits is reads =
+line-is q total text ended read fits is reads =
     rw (
       sym reads,
       read-fields total text (length (first text)) (first-within text),
@@ -298,26 +298,26 @@ line-is p total text ended read fits is reads =
       fields-first text,
     )
     (sym
-    (taken-cond p
+    (taken-cond q
     (eqb (suc (length (drop 1 (fields text)))) (suc total) && numerals (drop 1 (fields text)))
     (keyOf (first text))
     (numbers (drop 1 (fields text)))))
 
 -- A line that fits is being read: of `total` numbers the first i stand in ns, it is known whether
 -- one of them is the modulus or more, and the others are read from a position on
-pub record Reading (p total : ℕ) (text : List ℕ) (ended : Bool) (ns : List ℕ) (i at : ℕ) (below : Bool) : Type 0 where
+pub record Reading (q total : ℕ) (text : List ℕ) (ended : Bool) (ns : List ℕ) (i at : ℕ) (below : Bool) : Type 0 where
   pub fits : length text ≤ 80
   pub whole : ended ≡ true
   pub many : length ns ≡ total
   pub inside : i ≤ total
   pub reads : readFrom total text (length (first text)) ≡ prepends (take i ns) (readFrom (total - i) text at)
-  pub small : below ≡ allBelow p (take i ns)
+  pub small : below ≡ allBelow q (take i ns)
 
 pub reading-begins :
-    {text : List ℕ} {ended : Bool} {name : Name} (p : ℕ) (ns : List ℕ)
-    → length text ≤ 80 → ended ≡ true → name ≡ nameOf (first text) → Reading p (length ns) text ended ns 0 (name .next) true
+    {text : List ℕ} {ended : Bool} {name : Name} (q : ℕ) (ns : List ℕ)
+    → length text ≤ 80 → ended ≡ true → name ≡ nameOf (first text) → Reading q (length ns) text ended ns 0 (name .next) true
 unfolding prepends nameOf allBelow
-reading-begins {text} p ns fits whole is =
+reading-begins {text} q ns fits whole is =
     record {
       fits = fits;
       whole = whole;
@@ -327,13 +327,13 @@ reading-begins {text} p ns fits whole is =
       small = refl;
     }
 
-module _ {p total : ℕ} {text : List ℕ} {ended : Bool} {ns : List ℕ} {i at : ℕ} {below : Bool} (reading : Reading p total text ended ns i at below) where
+module _ {q total : ℕ} {text : List ℕ} {ended : Bool} {ns : List ℕ} {i at : ℕ} {below : Bool} (reading : Reading q total text ended ns i at below) where
   -- one of the numbers that are left is read
   reading-next : i < total → readFrom total text (length (first text)) ≡ prepends (take i ns) (readFrom (suc (total - (i + 1))) text at)
   reading-next left = reading .reads ∙ ap (λ (k : ℕ). prepends (take i ns) (readFrom k text at)) (omega arith)
 
   module _ (left : i < total) {found : Number} (is : found ≡ numberFrom at (drop at text)) where
-    pub reading-goes : {v next : ℕ} → found ≡ Read v next → Reading p total text ended (set ns i v) (i + 1) next (below && ltb v p)
+    pub reading-goes : {v next : ℕ} → found ≡ Read v next → Reading q total text ended (set ns i v) (i + 1) next (below && ltb v q)
     unfolding readFrom readOn
     reading-goes {v} {next} goes =
         record {
@@ -346,14 +346,14 @@ module _ {p total : ℕ} {text : List ℕ} {ended : Bool} {ns : List ℕ} {i at 
               ∙ ap (λ (n : Number). prepends (take i ns) (readOn n (λ m. readFrom (total - (i + 1)) text m))) (sym is ∙ goes)
               ∙ prepends-more (take i ns) v (readFrom (total - (i + 1)) text next)
               ∙ rw (add-one i, take-suc-set ns i v (omega arith));
-          small = rw (add-one i, take-suc-set ns i v (omega arith)) (ap (λ (t : Bool). t && ltb v p) (reading .small) ∙ sym (below-append p (take i ns) v));
+          small = rw (add-one i, take-suc-set ns i v (omega arith)) (ap (λ (t : Bool). t && ltb v q) (reading .small) ∙ sym (below-append q (take i ns) v));
         }
 
     -- or is none
-    pub reading-fails : found ≡ Unread → unread ≡ fieldsTaken p total (record { text = text; ended = ended })
+    pub reading-fails : found ≡ Unread → unread ≡ fieldsTaken q total (record { text = text; ended = ended })
     unfolding readFrom readOn takenWith
     reading-fails fails =
-        line-is p total text ended none (reading .fits) (reading .whole)
+        line-is q total text ended none (reading .fits) (reading .whole)
         (reading-next left
         ∙ ap (λ (n : Number). prepends (take i ns) (readOn n (λ m. readFrom (total - (i + 1)) text m))) (sym is ∙ fails)
         ∙ prepends-none (take i ns))
@@ -365,31 +365,31 @@ module _ {p total : ℕ} {text : List ℕ} {ended : Bool} {ns : List ℕ} {i at 
       ∙ ap (λ (k : ℕ). prepends (take i ns) (readFrom k text at)) (omega arith)
       ∙ ap (λ (vs : List ℕ). prepends vs (readFrom 0 text at)) (take-all i ns (omega arith))
 
-  -- of all of them, whether one is p or more
-  reading-small : total ≤ i → below ≡ allBelow p ns
-  reading-small over = reading .small ∙ ap (allBelow p) (take-all i ns (omega arith))
+  -- of all of them, whether one is q or more
+  reading-small : total ≤ i → below ≡ allBelow q ns
+  reading-small over = reading .small ∙ ap (allBelow q) (take-all i ns (omega arith))
 
   -- and the last number ends the line, or does not
-  pub reading-ends : total ≤ i → {name : Name} → name ≡ nameOf (first text) → at ≡ length text → taken (name .key) ns below ≡ fieldsTaken p total (record { text = text; ended = ended })
+  pub reading-ends : total ≤ i → {name : Name} → name ≡ nameOf (first text) → at ≡ length text → taken (name .key) ns below ≡ fieldsTaken q total (record { text = text; ended = ended })
   unfolding readFrom takenWith nameOf
   reading-ends over named ends =
       ap (λ (n : Name). taken (n .key) ns below) named
       ∙ ap (taken (nameOf (first text) .key) ns) (reading-small over)
-      ∙ line-is p total text ended (some ns) (reading .fits) (reading .whole)
+      ∙ line-is q total text ended (some ns) (reading .fits) (reading .whole)
       (reading-last over ∙ rw (eq-eqb at (length text) ends) (prepends-some ns [] ∙ ap some (append-nil ns)))
 
-  pub reading-over : total ≤ i → (at ≡ length text → ⊥) → unread ≡ fieldsTaken p total (record { text = text; ended = ended })
+  pub reading-over : total ≤ i → (at ≡ length text → ⊥) → unread ≡ fieldsTaken q total (record { text = text; ended = ended })
   unfolding readFrom takenWith
   reading-over over more =
-      line-is p total text ended none (reading .fits) (reading .whole)
+      line-is q total text ended none (reading .fits) (reading .whole)
       (reading-last over ∙ rw (ne-eqb at (length text) more) (prepends-none ns))
 
 -- a line that does not fit is taken apart to none
-module _ (p total : ℕ) (text : List ℕ) (ended : Bool) where
-  pub line-long : 80 < length text → unread ≡ fieldsTaken p total (record { text = text; ended = ended })
+module _ (q total : ℕ) (text : List ℕ) (ended : Bool) where
+  pub line-long : 80 < length text → unread ≡ fieldsTaken q total (record { text = text; ended = ended })
   unfolding fieldsTaken readable fitting longest
   line-long long = rw (lt-leb (length text) 80 long)
 
-  pub line-broken : ended ≡ false → unread ≡ fieldsTaken p total (record { text = text; ended = ended })
+  pub line-broken : ended ≡ false → unread ≡ fieldsTaken q total (record { text = text; ended = ended })
   unfolding fieldsTaken readable fitting longest
   line-broken is = rw (is, and-false)

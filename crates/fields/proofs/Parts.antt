@@ -33,42 +33,23 @@ fields-taken false below name ns = refl
 fields-taken true true name ns = refl
 fields-taken true false name ns = refl
 
-taken-is-fields : (p k : ℕ) (line : Line) → onTaken (fieldsTaken p k line) ≡ byKey (fieldsOf p (suc k) line)
+taken-is-fields : (q k : ℕ) (line : Line) → onTaken (fieldsTaken q k line) ≡ byKey (fieldsOf q (suc k) line)
 unfolding fieldsTaken fieldsOf
-taken-is-fields p k line =
+taken-is-fields q k line =
     let fs = fields (line .text) in
     let ns = numbers (drop 1 fs) in
-    fields-taken (readable (suc k) line) (allBelow p ns) (getD fs 0 []) ns
-
--- no number of a line that has a key is the modulus or more
-unfoldable belowIn : ℕ → Keyed → Bool
-belowIn p (keyed key ns) = allBelow p ns
-belowIn p (faulty f) = true
-
-fields-below :
-    (p : ℕ) (readable below : Bool) (name ns : List ℕ) → allBelow p ns ≡ below → belowIn p (byKey (cond readable (cond below (named name ns) (noFields 3)) (noFields 2))) ≡ true
-unfolding belowIn byKey
-fields-below p false below name ns is = refl
-fields-below p true true name ns is = is
-fields-below p true false name ns is = refl
-
-pub keyed-below : (p k : ℕ) (line : Line) {key : ℕ} {ns : List ℕ} → keyed key ns ≡ byKey (fieldsOf p k line) → allBelow p ns ≡ true
-unfolding belowIn fieldsOf
-keyed-below p k line is =
-    let fs = fields (line .text) in
-    let ns = numbers (drop 1 fs) in
-    ap (belowIn p) is ∙ fields-below p (readable k line) (allBelow p ns) (getD fs 0 []) ns refl
+    fields-taken (readable (suc k) line) (allBelow q ns) (getD fs 0 []) ns
 
 -- what an answer says, by its variant and its test
-module _ (p : ℕ) (ns : List ℕ) (k : ℕ) (line : Line) {found : Found} (says : takenOf ns found ≡ fieldsTaken p k line) where
-  pub says-unread : found ≡ Unread → faulty 2 ≡ byKey (fieldsOf p (suc k) line)
+module _ (q : ℕ) (ns : List ℕ) (k : ℕ) (line : Line) {found : Found} (says : takenOf ns found ≡ fieldsTaken q k line) where
+  pub says-unread : found ≡ Unread → faulty 2 ≡ byKey (fieldsOf q (suc k) line)
   unfolding takenOf onTaken
-  says-unread e = ap onTaken (rw e at says) ∙ taken-is-fields p k line
+  says-unread e = ap onTaken (rw e at says) ∙ taken-is-fields q k line
 
-  pub says-large : {key : ℕ} {below : Bool} → found ≡ Read key below → below ≡ false → faulty 3 ≡ byKey (fieldsOf p (suc k) line)
+  pub says-large : {key : ℕ} {below : Bool} → found ≡ Read key below → below ≡ false → faulty 3 ≡ byKey (fieldsOf q (suc k) line)
   unfolding takenOf onTaken
-  says-large e f = ap onTaken (rw (e, f) at says) ∙ taken-is-fields p k line
+  says-large e f = ap onTaken (rw (e, f) at says) ∙ taken-is-fields q k line
 
-  pub says-key : {key : ℕ} {below : Bool} → found ≡ Read key below → below ≡ true → keyed key ns ≡ byKey (fieldsOf p (suc k) line)
+  pub says-key : {key : ℕ} {below : Bool} → found ≡ Read key below → below ≡ true → keyed key ns ≡ byKey (fieldsOf q (suc k) line)
   unfolding takenOf onTaken
-  says-key e f = ap onTaken (rw (e, f) at says) ∙ taken-is-fields p k line
+  says-key e f = ap onTaken (rw (e, f) at says) ∙ taken-is-fields q k line

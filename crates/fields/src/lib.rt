@@ -23,7 +23,7 @@ pub fn read(k: Modulus, text: &[u8], ended: bool, numbers: &mut [u64]) -> Found
     ensures answer { λ r. ⌜ takenOf (now (numbers .exit)) r ≡ fieldsTaken (modulusOf k) (length (now (numbers .entry))) (record { text = now (text .entry); ended = ended }) ⌝ }
     ensures many { λ _. ⌜ length (now (numbers .exit)) ≡ length (now (numbers .entry)) ⌝ }
 {
-    let p = k.modulus();
+    let q = k.modulus();
     if LONGEST < text.len() || !ended {
         return Found::Unread;
     }
@@ -35,7 +35,7 @@ pub fn read(k: Modulus, text: &[u8], ended: bool, numbers: &mut [u64]) -> Found
         let Number::Read(value, after) = decimal::number_at(text, next) else {
             return Found::Unread; // 2, also where a number before it is the modulus or more
         };
-        below = below & (value < p);
+        below = below & (value < q);
         numbers[i] = value;
         next = after;
         i += 1;

@@ -10,15 +10,11 @@ fn number(n: u64) {
     io::write_all(STDOUT_FILENO, b"\n");
 }
 
-fn word(n: u64) {
-    number(n as u64);
-}
-
 // The words of a slice, each on a line of its own.
 fn words(slice: &[u64]) {
     let mut i = 0;
     while i < slice.len() {
-        word(slice[i]);
+        number(slice[i]);
         i += 1;
     }
 }

@@ -17,14 +17,14 @@ ghost use Rattle.runs.specs.Filler.{inputFault};
 fn below(k: Modulus, guard: u64, addr: u64, value: u64) -> bool
     ensures { λ r. ⌜ r ≡ allBelow (modulusOf k) (guard ∷ addr ∷ value ∷ []) ⌝ }
 {
-    let p = k.modulus();
-    if guard >= p {
+    let q = k.modulus();
+    if guard >= q {
         return false;
     }
-    if addr >= p {
+    if addr >= q {
         return false;
     }
-    value < p
+    value < q
 }
 
 // The fault of an input row in a phase of a memory by its form, or 0.

@@ -5,22 +5,20 @@ use mathlib.Core.Path.{_≡_, refl, sym, ap, subst⁻¹, _∙_}
 use mathlib.Core.Bool.{Bool, true, false, cond}
 use mathlib.Core.List.{List, [], _∷_}
 use native.Mathlib.Omega.{arith}
-use lib.Dec.{eqb, leb}
-use borrow.Author.Tests.{eqb-true, leb-true}
+use lib.Dec.{eqb}
 use lib.ListN.{getD, drop}
 use Rattle.memory.specs.declared.Memory.{Memory}
-use Rattle.memory.specs.declared.Memory.the-variants.{Ram, Rom, Set, Stack, Queue}
 use Rattle.memory.specs.declared.Op.{Op}
 use Rattle.memory.specs.declared.Parsed.{Parsed}
 use Rattle.memory.specs.declared.Parsed.the-variants.{Sound, Fault}
 use Rattle.memory.specs.Bytes.{Line, comma, fields, numbers, allBelow, Fields, named, noFields, readable, fieldsOf}
 use Rattle.memory.specs.Names.{opNamed, memoryNamed}
-use Rattle.memory.specs.Rows.{limit, sized, allowed, rowFields, rowWith, rowRead, parseRow}
+use Rattle.memory.specs.Rows.{limit, allowed, rowFields, rowWith, rowRead, parseRow}
 use Rattle.memory.specs.File.{shut, valueFields, openedBy, valuesRead, parseValues}
 use Rattle.keys.specs.Keys.{keyOf, first, opKeyed, memoryKeyed}
 use Rattle.fields.proofs.Parts.{Keyed, keyed, faulty, byKey}
 use Rattle.fields.proofs.Fields.{fields-first}
-use Rattle.keys.proofs.Bools.{and-both}
+use Rattle.memory.proofs.Reached.{bounded-start}
 use Rattle.keys.proofs.Keys.{Bytes, op-keyed, memory-keyed}
 
 -- the first field of a text of bytes is a text of bytes
@@ -70,17 +68,8 @@ module _ {A C : Type 0} (answer : Fields → A) (read : C → List ℕ → A) (k
 
 -- an allowed size and count are at most 65,536
 pub allowed-fits : (m : Memory) (n t : ℕ) → allowed m n t ≡ true → (n ≤ 65536) × (t ≤ 65536)
-unfolding allowed sized limit
-allowed-fits m n t e =
-    let parts = and-both (sized m n) (leb t limit) e in
-    (size m (parts .0), leb-true t limit (parts .1))
-  where
-    size : (m : Memory) → sized m n ≡ true → n ≤ 65536
-    size Ram e = leb-true n limit e
-    size Rom e = leb-true n limit e
-    size Set e = leb-true n limit e
-    size Stack e = omega (arith, eqb-true n 0 e)
-    size Queue e = omega (arith, eqb-true n 0 e)
+unfolding limit
+allowed-fits m n t e = let b = bounded-start m n t e in (b .size, b .count)
 
 module _ (line : Line) (are : Bytes (line .text)) where
   pub op-agrees : opNamed (first (line .text)) ≡ opKeyed (keyOf (first (line .text)))

@@ -140,6 +140,7 @@ lent-is-steps l xs = record {
   modulus = ap (λ (z : Lent). z .field) (lent-steps l xs);
   rows = ap (λ (z : Lent). z .state) (lent-steps l xs);
   answer = ap (λ (z : Lent). answerOf (z .state)) (lent-steps l xs);
+  printed = ap (λ (z : Lent). reportOf (z .state)) (lent-steps l xs);
   report = ap (λ (z : Lent). reportOf (endOf (z .state))) (lent-steps l xs);
 }
 

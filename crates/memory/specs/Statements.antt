@@ -42,11 +42,13 @@ abbrev pub RunIsSteps : Type 0
 RunIsSteps = (q : ℕ) (s : State) (lines : List Line) → runOf q s lines ≡ stepsOf q s (parseRows q lines)
 
 -- A state that is lent with its modulus: rows handed to it one call at a time, and the end of file,
--- come to what the steps at that modulus come to, and the modulus stays.
+-- come to what the steps at that modulus come to, and so do the answer and what is printed; the
+-- modulus stays.
 pub record LentRun (l : Lent) (xs : List Parsed) : Type 0 where
   pub modulus : lentEnd (lentSteps l xs) .field ≡ l .field
   pub rows : lentSteps l xs .state ≡ stepsOf (modulusOf (l .field)) (l .state) xs
   pub answer : lentAnswer (lentSteps l xs) ≡ answerOf (stepsOf (modulusOf (l .field)) (l .state) xs)
+  pub printed : lentReport (lentSteps l xs) ≡ reportOf (stepsOf (modulusOf (l .field)) (l .state) xs)
   pub report : lentReport (lentEnd (lentSteps l xs)) ≡ reportOf (endOf (stepsOf (modulusOf (l .field)) (l .state) xs))
 
 -- (Fold: lent-is-steps)

@@ -15,8 +15,8 @@ ghost use Rattle.memory.specs.File.{valuesFault};
 pub fn below(k: Modulus, u: u64, v: u64, w: u64, x: u64, y: u64, z: u64) -> bool
     ensures { λ r. ⌜ r ≡ allBelow (modulusOf k) (u ∷ v ∷ w ∷ x ∷ y ∷ z ∷ []) ⌝ }
 {
-    let p = k.modulus();
-    (u < p) & ((v < p) & ((w < p) & ((x < p) & ((y < p) & (z < p)))))
+    let q = k.modulus();
+    (u < q) & ((v < q) & ((w < q) & ((x < q) & ((y < q) & (z < q)))))
 }
 
 // The fault, or 0.

@@ -1,7 +1,7 @@
--- `checker::end_in_place` meets its contract: a walk of its MIR, by hand. The state behind the
--- reference is copied and passed to `end`; what `end` returns is stored there, and `answer` is
--- called on it. What comes before `end` and after it is `Lent.antt`'s. All that the proof knows of
--- the two callees is that they meet their contracts.
+-- `checker::end_in_place` meets its contract: a walk of its MIR, by hand. The lent state behind the
+-- reference is copied and passed to `lent_end`; what that returns is stored there, and
+-- `lent_answer` is called on it. What comes before `lent_end` and after it is `Loans.antt`'s. All
+-- that the proof knows of the two callees is that they meet their contracts.
 -- Assumes nothing.
 use mathlib.Core.Path.{_≡_, refl, ap, _∙_}
 use Prim.Native.Nat.{ℕ}
@@ -64,7 +64,7 @@ module _ {M : Type 1} (𝓤 : URA M) (H : Heap 𝓤) (A : Atoms 𝓤) (at-mem : 
   abbrev End : Contract 𝓤
   End = tripleOf 𝓤 H A end.signature (end.spec 𝓤 H A at-mem run)
 
-  -- of `end`'s `ensured`, the clause alone
+  -- of `lent_end`'s `ensured`, the clause alone
   ended-of : (s r : Lent) → ent 𝓤 (ensured 𝓤 H A end.ended (end.clauses 𝓤 H A at-mem run) tt (s, tt) tt r) (fact 𝓤 (r ≡ lentEnd s))
   ended-of s r = exE 𝓤 _ (λ ws. snd∗ 𝓤 (sem 𝓤 H A (lasts end.ended tt (s, tt) ws)) (fact 𝓤 (r ≡ lentEnd s)))
 
@@ -106,7 +106,7 @@ module _ {M : Type 1} (𝓤 : URA M) (H : Heap 𝓤) (A : Atoms 𝓤) (W : Given
         calls-at ! fm (End 𝓤 H A at-mem run) known to-end (and-then ! (load ! (from ! (stop !)) (look ! 6 refl)) (no-more !)) (λ v.
         use1 W (later (some (λ (r : Lent). (‵ ftrue ⊛ ‵ (T.the-row .own r (v ∷ []))) ⊛ raw (ensured 𝓤 H A end.ended (end.clauses 𝓤 H A at-mem run) tt (h, tt) tt r)))) (id⊢ 𝓤 _) $ await ! tt $ pick ! (λ r.
         split ! $ move ! (1 ∷ []) $ use1 W (raw (fact 𝓤 (r ≡ lentEnd h))) (ended-of 𝓤 H A at-mem run h r) $ heard ! (r ≡ lentEnd h) (λ e. split ! $ drop ! $
-        -- [what `end`'s state owns; the cell; the open borrow; what observes it, and what holds it; _1; _3; …; room for _2; …; _1's …; room for _0; …]
+        -- [what `lent_end`'s state owns; the cell; the open borrow; what observes it, and what holds it; _1; _3; …; room for _2; …; _1's …; room for _0; …]
         move ! (0 ∷ 1 ∷ 2 ∷ 3 ∷ 4 ∷ 11 ∷ 5 ∷ 8 ∷ []) $ answers ! at-mem run fm answered b o h r v (λ Δ. from ! (stop !)) (λ a m is′ e′.
         -- [what observes the state; the borrow; the lifetime's token; _0; _1; _2; _3; _3's …; _2's …; _1's …; _0's …]
         forget ! 3 refl $ forget ! 4 refl $ forget ! 5 refl $ forget ! 6 refl $

@@ -1,7 +1,7 @@
--- `checker::row_in_place` meets its contract: a walk of its MIR, by hand. The state behind the
--- reference is copied and passed to `step` with the row; what `step` returns is stored there, and
--- `answer` is called on it. What comes before `step` and after it is `Lent.antt`'s. All that the
--- proof knows of the two callees is that they meet their contracts.
+-- `checker::row_in_place` meets its contract: a walk of its MIR, by hand. The lent state behind the
+-- reference is copied and passed to `lent_step` with the row; what that returns is stored there,
+-- and `lent_answer` is called on it. What comes before `lent_step` and after it is `Loans.antt`'s.
+-- All that the proof knows of the two callees is that they meet their contracts.
 -- Assumes nothing.
 use mathlib.Core.Path.{_≡_, refl, ap, _∙_}
 use Prim.Native.Nat.{ℕ}
@@ -75,7 +75,7 @@ module _ {M : Type 1} (𝓤 : URA M) (H : Heap 𝓤) (A : Atoms 𝓤) (at-mem : 
   abbrev Step : Contract 𝓤
   Step = tripleOf 𝓤 H A step.signature (step.spec 𝓤 H A at-mem run)
 
-  -- of `step`'s `ensured`, the clause alone
+  -- of `lent_step`'s `ensured`, the clause alone
   stepped-of : (s : Lent) (y : Parsed) (r : Lent) → ent 𝓤 (ensured 𝓤 H A step.ended (step.clauses 𝓤 H A at-mem run) tt (s, (y, tt)) tt r) (fact 𝓤 (r ≡ lentStep s y))
   stepped-of s y r = exE 𝓤 _ (λ ws. snd∗ 𝓤 (sem 𝓤 H A (lasts step.ended tt (s, (y, tt)) ws)) (fact 𝓤 (r ≡ lentStep s y)))
 
@@ -119,7 +119,7 @@ module _ {M : Type 1} (𝓤 : URA M) (H : Heap 𝓤) (A : Atoms 𝓤) (W : Given
         calls-at ! fm (Step 𝓤 H A at-mem run) known to-step (and-then ! (load ! (from ! (stop !)) (look ! 6 refl)) (and-then ! (load ! (from ! (stop !)) (look ! 10 refl)) (no-more !))) (λ v.
         use1 W (later (some (λ (r : Lent). (‵ ftrue ⊛ ‵ (T.the-row .own r (v ∷ []))) ⊛ raw (ensured 𝓤 H A step.ended (step.clauses 𝓤 H A at-mem run) tt (h, (y, tt)) tt r)))) (id⊢ 𝓤 _) $ await ! tt $ pick ! (λ r.
         split ! $ move ! (1 ∷ []) $ use1 W (raw (fact 𝓤 (r ≡ lentStep h y))) (stepped-of 𝓤 H A at-mem run h y r) $ heard ! (r ≡ lentStep h y) (λ e. split ! $ drop ! $
-        -- [what `step`'s state owns; the cell; the open borrow; what observes it, and what holds it; _1; _4; …; room for _3; …; _2; …; _1's …; room for _0; …]
+        -- [what `lent_step`'s state owns; the cell; the open borrow; what observes it, and what holds it; _1; _4; …; room for _3; …; _2; …; _1's …; room for _0; …]
         move ! (0 ∷ 1 ∷ 2 ∷ 3 ∷ 4 ∷ 13 ∷ 5 ∷ 8 ∷ []) $ answers ! at-mem run fm answered b o h r v (λ Δ. from ! (stop !)) (λ a m is′ e′.
         -- [what observes the state; the borrow; the lifetime's token; _0; _1; _3; _4; _4's …; _3's …; _2; …; _1's …; _0's …]
         forget ! 3 refl $ forget ! 4 refl $ forget ! 5 refl $ forget ! 6 refl $ forget ! 9 refl $

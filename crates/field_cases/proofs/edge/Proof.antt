@@ -26,20 +26,8 @@ mul-requires c κs = search needs
 number-requires : tie.Need-number-requires Inv-loop μ-loop
 number-requires c κs = search needs
 
-cast-more : tie.Need-cast-more Inv-loop μ-loop
-cast-more c = search needs
-
-sub-more : tie.Need-sub-more Inv-loop μ-loop
-sub-more c = search needs
-
-mul-more : tie.Need-mul-more Inv-loop μ-loop
-mul-more c = search needs
-
-array-read-more : tie.Need-array-read-more Inv-loop μ-loop
-array-read-more c = search needs
-
-more-requires : tie.Need-more-requires Inv-loop μ-loop
-more-requires c κs = search needs
+thirds-requires : tie.Need-thirds-requires Inv-loop μ-loop
+thirds-requires c κs = search needs
 
 add-j : tie.Need-add-j Inv-loop μ-loop
 add-j c = search needs
@@ -67,11 +55,7 @@ edge-spec =
     array-read-y
     mul-requires
     number-requires
-    cast-more
-    sub-more
-    mul-more
-    array-read-more
-    more-requires
+    thirds-requires
     add-j
     loop-less
     loop-again

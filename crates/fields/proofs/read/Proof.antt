@@ -15,10 +15,10 @@ use Rattle.fields.proofs.read.Statement.{statement}
 use Rattle.fields.proofs.read.Tie as tie
 
 abbrev Inv-loop : tie.InvT-loop
-Inv-loop text ended numbers₀ p name next₀ below₀ i₀ numbers next below i = Reading p (length numbers₀) text ended numbers i next below
+Inv-loop text ended numbers₀ q name next₀ below₀ i₀ numbers next below i = Reading q (length numbers₀) text ended numbers i next below
 
 abbrev μ-loop : tie.MeasureT-loop
-μ-loop text ended numbers₀ p name next₀ below₀ i₀ numbers next below i = length numbers - i
+μ-loop text ended numbers₀ q name next₀ below₀ i₀ numbers next below i = length numbers - i
 
 modulus-requires : tie.Need-modulus-requires Inv-loop μ-loop
 modulus-requires c κs = search needs

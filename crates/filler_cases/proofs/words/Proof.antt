@@ -15,14 +15,14 @@ abbrev μ-loop : tie.MeasureT-loop
 loop-holds : tie.Need-loop-holds Inv-loop μ-loop
 loop-holds c = search needs
 
-mul-word : tie.Need-mul-word Inv-loop μ-loop
-mul-word c = search needs
+mul-number : tie.Need-mul-number Inv-loop μ-loop
+mul-number c = search needs
 
-shared-slice-read-word : tie.Need-shared-slice-read-word Inv-loop μ-loop
-shared-slice-read-word c = search needs
+shared-slice-read-number : tie.Need-shared-slice-read-number Inv-loop μ-loop
+shared-slice-read-number c = search needs
 
-word-requires : tie.Need-word-requires Inv-loop μ-loop
-word-requires c κs = search needs
+number-requires : tie.Need-number-requires Inv-loop μ-loop
+number-requires c κs = search needs
 
 add-i : tie.Need-add-i Inv-loop μ-loop
 add-i c = search needs
@@ -43,9 +43,9 @@ words-spec =
     Inv-loop
     μ-loop
     loop-holds
-    mul-word
-    shared-slice-read-word
-    word-requires
+    mul-number
+    shared-slice-read-number
+    number-requires
     add-i
     loop-less
     loop-again

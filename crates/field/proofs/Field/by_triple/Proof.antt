@@ -1,34 +1,41 @@
--- `field::Field::by_triple` meets its contract: products of numbers of 31 bits are added as they are.
+-- `field::Field::by_triple` meets its contract: products of numbers of 31 bits are added as they
+-- are.
 -- Assumes nothing.
+use Prim.Native.Nat.{_*_, _≤_}
 use native.Mathlib.Omega.{arith}
 use Rattle.field.specs.Field.{p, subOf, tripleOf}
 use Rattle.field.proofs.Narrow.{product-fits}
 use Rattle.field.proofs.Field.by_triple.Statement.{statement}
 use Rattle.field.proofs.Field.by_triple.Tie as tie
 
-mul-by-less : tie.Need-mul-by-less
+-- how large the products are
+bounds : (c : tie.Start)
+    → let a = c .args in
+    (a .a * a .x ≤ 4611686014132420609) × (a .b * a .y ≤ 4611686014132420609) × (a .c * a .z ≤ 4611686014132420609)
 unfolding p
-mul-by-less c = let a = c .args in omega (arith, product-fits (a .a) (a .x) (c .pre .2) (c .pre .5), product-fits (a .b) (a .y) (c .pre .3) (c .pre .6), product-fits (a .c) (a .z) (c .pre .4) (c .pre .7))
+bounds c =
+    let a = c .args in
+    let h = c .pre in
+    (product-fits (a .a) (a .x) (h .2) (h .5), product-fits (a .b) (a .y) (h .3) (h .6), product-fits (a .c) (a .z) (h .4) (h .7))
+
+mul-by-less : tie.Need-mul-by-less
+mul-by-less c = omega (arith, bounds c)
 
 mul-by-less-2 : tie.Need-mul-by-less-2
-unfolding p
-mul-by-less-2 c = let a = c .args in omega (arith, product-fits (a .a) (a .x) (c .pre .2) (c .pre .5), product-fits (a .b) (a .y) (c .pre .3) (c .pre .6), product-fits (a .c) (a .z) (c .pre .4) (c .pre .7))
+mul-by-less-2 c = omega (arith, bounds c)
 
 add-by-less : tie.Need-add-by-less
-unfolding p
-add-by-less c = let a = c .args in omega (arith, product-fits (a .a) (a .x) (c .pre .2) (c .pre .5), product-fits (a .b) (a .y) (c .pre .3) (c .pre .6), product-fits (a .c) (a .z) (c .pre .4) (c .pre .7))
+add-by-less c = omega (arith, bounds c)
 
 mul-by-less-3 : tie.Need-mul-by-less-3
-unfolding p
-mul-by-less-3 c = let a = c .args in omega (arith, product-fits (a .a) (a .x) (c .pre .2) (c .pre .5), product-fits (a .b) (a .y) (c .pre .3) (c .pre .6), product-fits (a .c) (a .z) (c .pre .4) (c .pre .7))
+mul-by-less-3 c = omega (arith, bounds c)
 
 add-by-less-2 : tie.Need-add-by-less-2
-unfolding p
-add-by-less-2 c = let a = c .args in omega (arith, product-fits (a .a) (a .x) (c .pre .2) (c .pre .5), product-fits (a .b) (a .y) (c .pre .3) (c .pre .6), product-fits (a .c) (a .z) (c .pre .4) (c .pre .7))
+add-by-less-2 c = omega (arith, bounds c)
 
 by-less-requires : tie.Need-by-less-requires
 unfolding p
-by-less-requires c κs = let a = c .args in omega (arith, product-fits (a .a) (a .x) (c .pre .2) (c .pre .5), product-fits (a .b) (a .y) (c .pre .3) (c .pre .6), product-fits (a .c) (a .z) (c .pre .4) (c .pre .7))
+by-less-requires c κs = omega (arith, bounds c)
 
 returns : tie.Need-returns
 unfolding subOf tripleOf
