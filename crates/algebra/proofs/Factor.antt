@@ -10,9 +10,15 @@ use lib.Dec.{eqb}
 use lib.ListN.{length, replicate}
 use Rattle.algebra.specs.Modulo.{Same, times}
 use Rattle.algebra.specs.Prime.{multiply}
-use Rattle.algebra.specs.Vector.{inner, along, remainders}
+use Rattle.algebra.specs.Vector.{inner, along, remainders, Below}
 use Rattle.algebra.specs.Shuffle.{factor, product, balances}
 use Rattle.algebra.proofs.Modulo.{same-refl, same-trans, same-mod, same-add, same-mul, same-minus}
+
+-- entries below q are their own remainders
+pub remainders-below : (q : ℕ) (x : List ℕ) → Below q x → remainders q x ≡ x
+unfolding remainders
+remainders-below q [] b = refl
+remainders-below q (a ∷ x) b = ap₂ {C = List ℕ} (λ r l. r ∷ l) (mod-eq-of-lt (b .0)) (remainders-below q x (b .1))
 
 -- the inner product along a line
 pub along-inner : (w v x : List ℕ) (t : ℕ) → length w ≡ length v → inner (along w t v) x ≡ inner w x + t * inner v x
@@ -86,41 +92,41 @@ form-same p (a ∷ w) [] x e = absurd (cons≢nil e)
 form-same p (a ∷ w) (b ∷ v) x e =
     same-add (record { same = head-eq-of-cons-eq e }) (same-mul (same-refl {x = p}) (inner-same (suc p) w v x (tail-eq-of-cons-eq e)))
 
-module _ {A : Type 0} (p : ℕ) (vector : A → List ℕ) where
-  -- the product of the forms of a list of records
-  unfoldable pub forms : List ℕ → List A → ℕ
-  forms c xs = multiply (map (λ x. form p c (vector x)) xs)
+module _ (p : ℕ) where
+  -- the product of the forms of a list of vectors
+  unfoldable pub forms : List ℕ → List (List ℕ) → ℕ
+  forms c xs = multiply (map (λ x. form p c x) xs)
 
   -- the product sees only the remainders of a challenge
-  forms-same : (w v : List ℕ) (xs : List A) → remainders (suc p) w ≡ remainders (suc p) v → Same (suc p) (forms w xs) (forms v xs)
+  forms-same : (w v : List ℕ) (xs : List (List ℕ)) → remainders (suc p) w ≡ remainders (suc p) v → Same (suc p) (forms w xs) (forms v xs)
   unfolding forms multiply
   forms-same w v [] e = same-refl
-  forms-same w v (x ∷ xs) e = same-mul (form-same p w v (vector x) e) (forms-same w v xs e)
+  forms-same w v (x ∷ xs) e = same-mul (form-same p w v x e) (forms-same w v xs e)
 
   -- the product of the factors is the same modulo q,
-  product-same : (c : List ℕ) (xs : List A) → Same (suc p) (product (suc p) vector c xs) (forms c xs)
+  product-same : (c : List ℕ) (xs : List (List ℕ)) → Same (suc p) (product (suc p) c xs) (forms c xs)
   unfolding product times forms multiply
   product-same c [] = same-refl
-  product-same c (x ∷ xs) = same-trans (same-mod (suc p) _) (same-mul (factor-form p c (vector x)) (product-same c xs))
+  product-same c (x ∷ xs) = same-trans (same-mod (suc p) _) (same-mul (factor-form p c x) (product-same c xs))
 
   -- and it is reduced,
-  product-below : (c : List ℕ) (xs : List A) → 2 ≤ suc p → product (suc p) vector c xs < suc p
+  product-below : (c : List ℕ) (xs : List (List ℕ)) → 2 ≤ suc p → product (suc p) c xs < suc p
   unfolding product times
   product-below c [] two = two
   product-below c (x ∷ xs) two = mod-lt _ (zero-lt-suc p)
 
   -- so it is the remainder of the product of the forms
-  pub product-forms : (c : List ℕ) (xs : List A) → 2 ≤ suc p → product (suc p) vector c xs ≡ forms c xs % suc p
+  pub product-forms : (c : List ℕ) (xs : List (List ℕ)) → 2 ≤ suc p → product (suc p) c xs ≡ forms c xs % suc p
   product-forms c xs two = sym (mod-eq-of-lt (product-below c xs two)) ∙ product-same c xs .same
 
   pub balances-forms :
-      (c : List ℕ) (xs ys : List A) → 2 ≤ suc p → balances (suc p) vector c xs ys ≡ eqb (forms c xs % suc p) (forms c ys % suc p)
+      (c : List ℕ) (xs ys : List (List ℕ)) → 2 ≤ suc p → balances (suc p) c xs ys ≡ eqb (forms c xs % suc p) (forms c ys % suc p)
   unfolding balances
   balances-forms c xs ys two = ap₂ eqb (product-forms c xs two) (product-forms c ys two)
 
   -- whether two products are equal is seen from the remainders of a challenge
   pub balances-remainders :
-      (w v : List ℕ) (xs ys : List A) → 2 ≤ suc p → remainders (suc p) w ≡ remainders (suc p) v
-      → balances (suc p) vector w xs ys ≡ balances (suc p) vector v xs ys
+      (w v : List ℕ) (xs ys : List (List ℕ)) → 2 ≤ suc p → remainders (suc p) w ≡ remainders (suc p) v
+      → balances (suc p) w xs ys ≡ balances (suc p) v xs ys
   balances-remainders w v xs ys two e =
       balances-forms w xs ys two ∙ (ap₂ eqb (forms-same w v xs e .same) (forms-same w v ys e .same) ∙ sym (balances-forms v xs ys two))

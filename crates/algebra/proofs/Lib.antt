@@ -11,6 +11,7 @@ pub mod Plane
 pub mod Roots
 pub mod Line
 pub mod Hash
+pub mod WordsHash
 pub mod Multiset
 pub mod Honest
 pub mod Average

@@ -11,7 +11,6 @@ use lib.Dec.{T, eqb, eqb→eq, eqb-refl}
 use lib.ListN.{length}
 use Rattle.algebra.specs.Sum.{bit}
 use Rattle.algebra.specs.Multiset.{total, EquallyOften}
-use Rattle.algebra.specs.Shuffle.{Code}
 
 module _ {A : Type 0} where
   -- the sum over two lists joined
@@ -135,7 +134,7 @@ module _ {A : Type 0} (test : A → A → Bool) (sound : (x y : A) → T (test x
   unfolding occurrences
   present-often x xs ys h = occurs-present x ys (omega (arith, h (λ y. bit (test x y)), occurs-self x xs))
 
--- records with a code: their vectors are compared entry by entry
+-- vectors are compared entry by entry
 unfoldable pub equal-vectors : List ℕ → List ℕ → Bool
 equal-vectors [] [] = true
 equal-vectors [] (y ∷ ys) = false
@@ -166,27 +165,10 @@ unfolding equal-vectors
 equal-vectors-self [] = tt
 equal-vectors-self (x ∷ xs) = both-pass (eqb x x) (equal-vectors xs xs) (eqb-refl x) (equal-vectors-self xs)
 
-module _ {A : Type 0} {k : ℕ} (code : Code A k) where
-  -- records with equal vectors are equal
-  pub vector-injective : (x y : A) → code .vector x ≡ code .vector y → x ≡ y
-  vector-injective x y e = sym (code .left x) ∙ (ap (code .back) e ∙ code .left y)
+-- a vector is in a list or not
+pub find-vector : (x : List ℕ) (ys : List (List ℕ)) → Present x ys ⊎ Absent x ys
+find-vector = find equal-vectors equal-vectors-sound equal-vectors-self
 
-  -- the test of two records, which passes at equal records, and only there
-  unfoldable pub equal-records : A → A → Bool
-  equal-records x y = equal-vectors (code .vector x) (code .vector y)
-
-  pub equal-records-sound : (x y : A) → T (equal-records x y) → x ≡ y
-  unfolding equal-records
-  equal-records-sound x y t = vector-injective x y (equal-vectors-sound (code .vector x) (code .vector y) t)
-
-  pub equal-records-self : (x : A) → T (equal-records x x)
-  unfolding equal-records
-  equal-records-self x = equal-vectors-self (code .vector x)
-
-  -- a record is in a list or not
-  pub find-record : (x : A) (ys : List A) → Present x ys ⊎ Absent x ys
-  find-record = find equal-records equal-records-sound equal-records-self
-
-  -- the record in front of one list is in every list that holds the same records equally often
-  pub present-record : (x : A) (xs ys : List A) → EquallyOften (x ∷ xs) ys → Present x ys
-  present-record = present-often equal-records equal-records-sound equal-records-self
+-- the vector in front of one list is in every list that holds the same vectors equally often
+pub present-vector : (x : List ℕ) (xs ys : List (List ℕ)) → EquallyOften (x ∷ xs) ys → Present x ys
+present-vector = present-often equal-vectors equal-vectors-sound equal-vectors-self

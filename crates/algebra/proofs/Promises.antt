@@ -9,6 +9,7 @@ use Rattle.algebra.proofs.Plane.{plane-bound}
 use Rattle.algebra.proofs.Shuffle.{shuffle-bound}
 use Rattle.algebra.proofs.Honest.{equal-products}
 use Rattle.algebra.proofs.Hash.{hash-bound}
+use Rattle.algebra.proofs.WordsHash.{words-hash-bound}
 
 pub promises : Promises
 promises = record {
@@ -26,4 +27,5 @@ promises = record {
   shuffleBound = shuffle-bound;
   equalProducts = equal-products;
   hashBound = hash-bound;
+  wordsHashBound = words-hash-bound;
 }

@@ -102,6 +102,12 @@ sums-constant q (suc d) c =
     sum-ext q _ _ (λ x l. sums-constant q d c)
     ∙ (sum-constant q (c * q ^ d) ∙ (mul-assoc c (q ^ d) q ∙ ap (λ (r : ℕ). c * r) (sym (pow-suc q d))))
 
+-- a factor comes out
+pub sums-scale : (q d k : ℕ) (f : List ℕ → ℕ) → sums q d (λ w. k * f w) ≡ k * sums q d f
+unfolding sums
+sums-scale q zero k f = refl
+sums-scale q (suc d) k f = sum-ext q _ _ (λ x l. sums-scale q d k (λ w. f (x ∷ w))) ∙ sum-scale q k _
+
 -- a sum over a range and a sum over vectors change places
 pub sum-sums-swap : (n q d : ℕ) (f : ℕ → List ℕ → ℕ) → sum n (λ x. sums q d (λ w. f x w)) ≡ sums q d (λ w. sum n (λ x. f x w))
 unfolding sums
@@ -158,6 +164,10 @@ pub counts-all : (q d : ℕ) (P : List ℕ → Bool) → counts q d P ≤ q ^ d
 unfolding counts
 counts-all q d P =
     le-trans (sums-monotone q d _ (λ w. 1) (λ w. bit-one (P w))) (le-of-eq (sums-constant q d 1 ∙ one-mul (q ^ d)))
+
+pub count-all : (q : ℕ) (P : ℕ → Bool) → count q P ≤ q
+unfolding count
+count-all q P = le-trans (sum-monotone q _ (λ x. 1) (λ x l. bit-one (P x))) (le-of-eq (sum-constant q 1 ∙ one-mul q))
 
 -- a test that fails everywhere is passed by none
 count-none : (n : ℕ) (P : ℕ → Bool) → ((x : ℕ) → x < n → P x ≡ false) → count n P ≡ 0

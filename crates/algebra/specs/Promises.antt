@@ -1,8 +1,8 @@
 -- Every statement of this crate, as the fields of one record: a proof of it is a proof of each. (Promises: promises)
 -- Assumes nothing.
-use Rattle.algebra.specs.Statements.{CertifiedPrime, ZeroProduct, SumsMonotone, SumsAdditive, SumsConstant, SumsSwap, SumsShift, UnionBound, Witness, RootsBound, PlaneBound, ShuffleBound, EqualProducts, HashBound}
+use Rattle.algebra.specs.Statements.{CertifiedPrime, ZeroProduct, SumsMonotone, SumsAdditive, SumsConstant, SumsSwap, SumsShift, UnionBound, Witness, RootsBound, PlaneBound, ShuffleBound, EqualProducts, HashBound, WordsHashBound}
 
-pub record Promises : Type 1 where
+pub record Promises : Type 0 where
   pub certified : CertifiedPrime
   pub zeroProduct : ZeroProduct
   pub sumsMonotone : SumsMonotone
@@ -17,3 +17,4 @@ pub record Promises : Type 1 where
   pub shuffleBound : ShuffleBound
   pub equalProducts : EqualProducts
   pub hashBound : HashBound
+  pub wordsHashBound : WordsHashBound

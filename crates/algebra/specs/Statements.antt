@@ -1,19 +1,20 @@
 -- What is shown of the definitions, each statement for any prime q. proofs/ has a proof of each, under the name that the comment gives.
 -- Assumes nothing.
--- must-fail/shuffle_bound_one_less.edit uses `_-_`
+-- must-fail/shuffle_bound_one_less.edit, shuffle_bound_power.edit and words_hash_power.edit use
+-- `_-_`
 use Prim.Native.Nat.{ℕ, suc, _+_, _-_, _*_, _^_, _%_, _≤_, _<_}
 use mathlib.Core.Path.{_≡_}
 use mathlib.Core.Logic.{_⊎_, _≢_}
 use mathlib.Core.Bool.{Bool, false, _||_}
-use mathlib.Core.List.{List}
+use mathlib.Core.List.{List, map}
 use lib.Dec.{eqb, T}
 use lib.ListN.{length}
-use Rattle.algebra.specs.Sum.{count, counts, sums}
+use Rattle.algebra.specs.Sum.{bit, sum, count, counts, sums}
 use Rattle.algebra.specs.Prime.{Prime, certified}
-use Rattle.algebra.specs.Vector.{inner, along, remainders, Below, AllZero}
+use Rattle.algebra.specs.Vector.{inner, along, remainders, Below, AllZero, Wide}
 use Rattle.algebra.specs.Polynomial.{root}
 use Rattle.algebra.specs.Multiset.{EquallyOften}
-use Rattle.algebra.specs.Shuffle.{Code, product, balances, Reduced}
+use Rattle.algebra.specs.Shuffle.{product, balances}
 use Rattle.algebra.specs.Hash.{hash}
 
 -- A number with a certificate is prime. One statement for every number. (Certificate: certified-prime)
@@ -69,19 +70,21 @@ PlaneBound =
     (q k e : ℕ) (d : List ℕ) → Prime q → length d ≡ suc k → ¬ AllZero q d
     → counts q (suc k) (λ w. eqb ((inner w d + e) % q) 0) ≤ q ^ k
 
--- Two lists of at most m records, whose vectors have length k and entries below q: they hold the same records equally often, or
--- their products agree at no more than m · q ^ k of the q ^ (k + 1) challenges. (Shuffle: shuffle-bound)
-abbrev pub ShuffleBound : Type 1
+-- Two lists of at most m vectors of length k with entries below q: they hold the same vectors
+-- equally often, or their products agree at no more than m · q ^ k of the q ^ (k + 1) challenges.
+-- (Shuffle: shuffle-bound)
+abbrev pub ShuffleBound : Type 0
 ShuffleBound =
-    (A : Type 0) (q k m : ℕ) (code : Code A k) (xs ys : List A)
-    → Prime q → length xs ≤ m → length ys ≤ m → Reduced q (code .vector) xs → Reduced q (code .vector) ys
-    → EquallyOften xs ys ⊎ (counts q (suc k) (λ c. balances q (code .vector) c xs ys) ≤ m * q ^ k)
+    (q k m : ℕ) (xs ys : List (List ℕ))
+    → Prime q → length xs ≤ m → length ys ≤ m → Wide q k xs → Wide q k ys
+    → EquallyOften xs ys ⊎ (counts q (suc k) (λ c. balances q c xs ys) ≤ m * q ^ k)
 
--- The honest side: the same records equally often give equal products at every challenge. (Honest: equal-products)
-abbrev pub EqualProducts : Type 1
+-- The honest side: the same vectors equally often give equal products at every challenge.
+-- (Honest: equal-products)
+abbrev pub EqualProducts : Type 0
 EqualProducts =
-    (A : Type 0) (q k : ℕ) (code : Code A k) (xs ys : List A) (c : List ℕ)
-    → EquallyOften xs ys → product q (code .vector) c xs ≡ product q (code .vector) c ys
+    (q : ℕ) (xs ys : List (List ℕ)) (c : List ℕ)
+    → EquallyOften xs ys → product q c xs ≡ product q c ys
 
 -- Two lists of n + 1 elements that differ modulo q have equal hashes at no more than n values of r. (Hash: hash-bound)
 -- The elements are any numbers, so they may be inner products with further coefficients.
@@ -89,3 +92,11 @@ abbrev pub HashBound : Type 0
 HashBound =
     (q n : ℕ) (xs ys : List ℕ) → Prime q → length xs ≡ suc n → length ys ≡ suc n → remainders q xs ≢ remainders q ys
     → count q (λ r. eqb (hash q r xs) (hash q r ys)) ≤ n
+
+-- Two different lists of n + 1 vectors of length d with entries below q, each vector hashed as its
+-- inner product with w: their hashes are equal at no more than (n + 1) · q ^ d of the q ^ (d + 1)
+-- choices of r and w. (WordsHash: words-hash-bound)
+abbrev pub WordsHashBound : Type 0
+WordsHashBound =
+    (q d n : ℕ) (xs ys : List (List ℕ)) → Prime q → length xs ≡ suc n → length ys ≡ suc n → Wide q d xs → Wide q d ys → xs ≢ ys
+    → sum q (λ r. sums q d (λ w. bit (eqb (hash q r (map (inner w) xs)) (hash q r (map (inner w) ys))))) ≤ suc n * q ^ d

@@ -3,6 +3,7 @@
 use Prim.Native.Nat.{ℕ, _+_, _*_, _%_, _<_}
 use mathlib.Core.Path.{_≡_}
 use mathlib.Core.List.{List, [], _∷_, map}
+use lib.ListN.{length}
 
 -- the inner product, to the end of the shorter list
 unfoldable pub inner : List ℕ → List ℕ → ℕ
@@ -29,3 +30,8 @@ Below q (x ∷ xs) = (x < q) × Below q xs
 abbrev pub AllZero : ℕ → List ℕ → Type 0
 AllZero q [] = Unit {0}
 AllZero q (x ∷ xs) = (x % q ≡ 0) × AllZero q xs
+
+-- every vector of a list has length d and entries below q
+abbrev pub Wide : ℕ → ℕ → List (List ℕ) → Type 0
+Wide q d [] = Unit {0}
+Wide q d (x ∷ xs) = (length x ≡ d) × Below q x × Wide q d xs

@@ -15,15 +15,17 @@ use Rattle.memory.specs.declared.Memory.{Memory}
 use Rattle.memory.specs.declared.Phase.{Phase}
 use Rattle.memory.specs.declared.Phase.the-variants.{Starting, Operating}
 use Rattle.memory.specs.declared.Row.{Row}
+use Rattle.memory.specs.Content.{Content, contentOf, numberOf}
 use Rattle.memory.specs.Bytes.{allBelow}
 use Rattle.memory.specs.Rows.{allowed, opsDue, opIn, formed}
 use Rattle.runs.specs.Plain.{start, after}
-use Rattle.runs.specs.Honest.{Input, inputOf, bare, filledRows, impossible, inputOperation, possible}
+use Rattle.runs.specs.Honest.{Input, inputOf, bare, filledRow, filledRows, impossible, inputOperation, possible}
 use Rattle.memory.specs.Names.{opCoded}
+use Rattle.memory.proofs.Content.{Single}
 use Rattle.runs.specs.Filler.{memoryCode, inputNumbers, rowNumbers, room, inputFault, operationFault, Placed, placed, operationsFault, rowsFault, Filling, turnedAway, filledWith, rowRefused, fillRows, fillMemory, fillOf}
 use Rattle.runs.specs.Advised.{fillingFor, Advised}
-use Rattle.memory.proofs.ReadRows.{both-pass, chosen-zero}
-use Rattle.runs.proofs.FillerRows.{memory-coded, inputs-coded, input-numbers-length}
+use Rattle.memory.proofs.ReadRows.{both-pass, chosen-zero, SingleRows, single-taken, single-dropped, formed-single}
+use Rattle.runs.proofs.FillerRows.{SingleInputs, single-append, memory-coded, inputs-coded, input-numbers-length}
 use Rattle.memory.proofs.Operations.{op-coded}
 
 -- the numbers of output rows stand for them
@@ -36,17 +38,25 @@ rowsCoded (o ∷ g ∷ a ∷ v ∷ []) = []
 rowsCoded (o ∷ g ∷ a ∷ v ∷ b ∷ []) = []
 rowsCoded (o ∷ g ∷ a ∷ v ∷ b ∷ c ∷ []) = []
 rowsCoded (o ∷ g ∷ a ∷ v ∷ b ∷ c ∷ d ∷ rest) =
-    record { op = opCoded o; guard = g; addr = a; value = v; old = b; time = c; version = d } ∷ rowsCoded rest
+    record { op = opCoded o; guard = g; addr = a; value = contentOf v; old = contentOf b; time = c; version = d } ∷ rowsCoded rest
 
-rows-coded : (rows : List Row) → rowsCoded (rowNumbers rows) ≡ rows
+rows-coded : (rows : List Row) → SingleRows rows → rowsCoded (rowNumbers rows) ≡ rows
 unfolding rowsCoded rowNumbers
-rows-coded [] = refl
-rows-coded (row ∷ rows) =
-    ap₂ {C = List Row} (λ o rs. record { op = o; guard = row .guard; addr = row .addr; value = row .value; old = row .old; time = row .time; version = row .version } ∷ rs) (op-coded (row .op)) (rows-coded rows)
+rows-coded [] s = refl
+rows-coded (row ∷ rows) s =
+    λ j. record {
+      op = op-coded (row .op) j;
+      guard = row .guard;
+      addr = row .addr;
+      value = s .0 .0 j;
+      old = s .0 .1 j;
+      time = row .time;
+      version = row .version;
+    } ∷ rows-coded rows (s .1) j
 
 -- so equal numbers are equal rows
-pub row-numbers-injective : (rows others : List Row) → rowNumbers rows ≡ rowNumbers others → rows ≡ others
-row-numbers-injective rows others e = sym (rows-coded rows) ∙ (ap rowsCoded e ∙ rows-coded others)
+pub row-numbers-injective : (rows others : List Row) → SingleRows rows → SingleRows others → rowNumbers rows ≡ rowNumbers others → rows ≡ others
+row-numbers-injective rows others s r e = sym (rows-coded rows s) ∙ (ap rowsCoded e ∙ rows-coded others r)
 
 -- 7 numbers an output row
 pub row-numbers-length : (rows : List Row) → length (rowNumbers rows) ≡ 7 * length rows
@@ -56,10 +66,10 @@ row-numbers-length (row ∷ rows) = omega (arith, row-numbers-length rows)
 
 -- the filler on as many rows as it should have, with room
 pub fill-with-room : (q : ℕ) (m : Memory) (n t : ℕ) (inits ops : List Input) (out scratch : List ℕ) → allowed m n t ≡ true → length inits ≡ n → length ops ≡ t
-    → 7 * room n t ≤ length out → room n t ≤ length scratch
+    → SingleInputs inits → SingleInputs ops → 7 * room n t ≤ length out → room n t ≤ length scratch
     → fillOf q (memoryCode m) n t (inputNumbers (inits ++ ops)) out scratch ≡ fillRows q m t inits ops out scratch
 unfolding fillOf fillMemory
-fill-with-room q m n t inits ops out scratch h size count wide deep =
+fill-with-room q m n t inits ops out scratch h size count si so wide deep =
     let long : length (inputNumbers (inits ++ ops)) ≡ 4 * (n + t) = omega (arith, input-numbers-length (inits ++ ops), length-append inits ops) in
     rw (
       memory-coded m,
@@ -67,7 +77,7 @@ fill-with-room q m n t inits ops out scratch h size count wide deep =
       eq-eqb (length (inputNumbers (inits ++ ops))) (4 * (n + t)) long,
       le-leb (7 * room n t) (length out) wide,
       le-leb (room n t) (length scratch) deep,
-      inputs-coded (inits ++ ops),
+      inputs-coded (inits ++ ops) (single-append inits ops si so),
       take-at inits ops n size,
       drop-at inits ops n size,
     )
@@ -122,10 +132,30 @@ pub record FilledRows (q : ℕ) (m : Memory) (n t : ℕ) (rows : List Row) : Typ
   pub unrefused : rowsFault q m (map (λ i. i .value) (map inputOf (take n rows))) 1 (map inputOf (take n rows)) (map inputOf (take t (drop n rows))) .number ≡ 0
   pub filled : rows ≡ filledRows m t (map inputOf (take n rows)) (map inputOf (take t (drop n rows)))
 
-pub advised-rows : (q : ℕ) (m : Memory) (n t : ℕ) (rows : List Row) → Advised q m n t rows → FilledRows q m n t rows
+-- the inputs of rows whose contents are nothing but their numbers
+single-inputs : (rows : List Row) → SingleRows rows → SingleInputs (map inputOf rows)
+unfolding inputOf
+single-inputs [] s = tt
+single-inputs (row ∷ rows) s = (s .0 .0, single-inputs rows (s .1))
+
+-- the contents that the rules write are nothing but their numbers: `honestSingle`, which is shown
+-- where the filler refuses nothing
+pub advised-rows :
+    (q : ℕ) (m : Memory) (n t : ℕ) (rows : List Row) → SingleRows rows
+    → ((inits ops : List Input) → length ops ≡ t
+    → rowsFault q m (map (λ i. i .value) inits) 1 inits ops .number ≡ 0 → SingleRows (filledRows m t inits ops))
+    → Advised q m n t rows → FilledRows q m n t rows
 unfolding fillingFor
-advised-rows q m n t rows a =
-    record { fit = fit .0; size = size; count = count; unrefused = w .unrefused; filled = sym (row-numbers-injective honest rows same) }
+advised-rows q m n t rows single honestSingle a =
+    record {
+      fit = fit .0;
+      size = size;
+      count = count;
+      unrefused = w .unrefused;
+      filled =
+          sym (row-numbers-injective honest rows
+          (honestSingle inits ops (length-map (take t (drop n rows)) inputOf ∙ count) (w .unrefused)) single same);
+    }
   where
     fit : (allowed m n t ≡ true) × (length (map inputOf (take (n + t) rows)) ≡ n + t)
     fit = admitted q m n t (map inputOf (take (n + t) rows)) (a .output) (a .scratch) (a .filled)
@@ -145,13 +175,19 @@ advised-rows q m n t rows a =
     ops : List Input
     ops = map inputOf (take t (drop n rows))
 
+    si : SingleInputs inits
+    si = single-inputs (take n rows) (single-taken n rows single)
+
+    so : SingleInputs ops
+    so = single-inputs (take t (drop n rows)) (single-taken t (drop n rows) (single-dropped n rows single))
+
     honest : List Row
     honest = filledRows m t inits ops
 
     fill : fillOf q (memoryCode m) n t (inputNumbers (map inputOf (take (n + t) rows))) (a .output) (a .scratch) ≡ fillRows q m t inits ops (a .output) (a .scratch)
     fill =
         ap (λ (xs : List ℕ). fillOf q (memoryCode m) n t xs (a .output) (a .scratch)) (given n t rows)
-        ∙ fill-with-room q m n t inits ops (a .output) (a .scratch) (fit .0) (length-map (take n rows) inputOf ∙ size) (length-map (take t (drop n rows)) inputOf ∙ count) (a .outputRoom) (a .scratchRoom)
+        ∙ fill-with-room q m n t inits ops (a .output) (a .scratch) (fit .0) (length-map (take n rows) inputOf ∙ size) (length-map (take t (drop n rows)) inputOf ∙ count) si so (a .outputRoom) (a .scratchRoom)
 
     w : Wrote q m t inits ops (a .output) (a .scratch)
     w = wrote q m t inits ops (a .output) (a .scratch) (ap (λ (f : Filling). f .answer) (sym fill) ∙ a .filled)
@@ -170,11 +206,11 @@ advised-rows q m n t rows a =
 
 -- The other way round: rows that the filler writes for the init rows and operations among them have the filler's advice.
 pub filled-advised : (q : ℕ) (m : Memory) (n t : ℕ) (inits ops : List Input) → allowed m n t ≡ true → length inits ≡ n → length ops ≡ t
-    → rowsFault q m (map (λ i. i .value) inits) 1 inits ops .number ≡ 0
+    → SingleInputs inits → SingleInputs ops → rowsFault q m (map (λ i. i .value) inits) 1 inits ops .number ≡ 0
     → map inputOf (take (n + t) (filledRows m t inits ops)) ≡ inits ++ ops
     → Advised q m n t (filledRows m t inits ops)
 unfolding fillingFor filledWith
-filled-advised q m n t inits ops fit size count unrefused same = record {
+filled-advised q m n t inits ops fit size count si so unrefused same = record {
   output = output;
   scratch = scratch;
   outputRoom = wide;
@@ -207,26 +243,32 @@ filled-advised q m n t inits ops fit size count unrefused same = record {
     result : fillOf q (memoryCode m) n t (inputNumbers (map inputOf (take (n + t) rows))) output scratch ≡ filledWith rows output scratch
     result =
         ap (λ (is : List Input). fillOf q (memoryCode m) n t (inputNumbers is) output scratch) same
-        ∙ (fill-with-room q m n t inits ops output scratch fit size count wide deep ∙ unstopped)
+        ∙ (fill-with-room q m n t inits ops output scratch fit size count si so wide deep ∙ unstopped)
 
--- An input row that meets none of 3, 5, 6: its numbers are elements, its op is due, and the row has its form.
+-- An input row that meets none of 3, 5, 6: its numbers are elements, its op is due, and the row has
+-- its form; so its value is nothing but its number.
 abbrev pub DueInput : ℕ → Memory → Phase → Input → Type 0
 DueInput q m p i =
-    (allBelow q (i .guard ∷ i .addr ∷ i .value ∷ []) ≡ true) × (opIn (i .op) (opsDue m p) ≡ true) × (formed m (bare i) ≡ true)
+    (allBelow q (i .guard ∷ i .addr ∷ numberOf (i .value) ∷ []) ≡ true) × (opIn (i .op) (opsDue m p) ≡ true) × (formed m (bare i) ≡ true)
+    × Single (i .value)
 
 -- the same of each row of a list
 abbrev pub DueInputs : ℕ → Memory → Phase → List Input → Type 0
 DueInputs q m p [] = Unit {0}
 DueInputs q m p (i ∷ is) = DueInput q m p i × DueInputs q m p is
 
+pub due-single : (q : ℕ) (m : Memory) (p : Phase) (is : List Input) → DueInputs q m p is → SingleInputs is
+due-single q m p [] due = tt
+due-single q m p (i ∷ is) due = (due .0 .3, due-single q m p is (due .1))
+
 -- no fault by its form is to be such a row
 input-due : (q : ℕ) (m : Memory) (p : Phase) (i : Input) → inputFault q m (opsDue m p) i ≡ 0 → DueInput q m p i
-unfolding inputFault
+unfolding inputFault bare filledRow
 input-due q m p i e =
-    let below = chosen-zero (allBelow q (i .guard ∷ i .addr ∷ i .value ∷ [])) _ 3 (omega arith) e in
+    let below = chosen-zero (allBelow q (i .guard ∷ i .addr ∷ numberOf (i .value) ∷ [])) _ 3 (omega arith) e in
     let op = chosen-zero (opIn (i .op) (opsDue m p)) _ 5 (omega arith) (below .1) in
     let form = chosen-zero (formed m (bare i)) 0 6 (omega arith) (op .1) in
-    (below .0, op .0, form .0)
+    (below .0, op .0, form .0, formed-single m (bare i) (form .0) .0)
 
 -- and the other way round
 due-input : (q : ℕ) (m : Memory) (p : Phase) (i : Input) → DueInput q m p i → inputFault q m (opsDue m p) i ≡ 0
@@ -245,7 +287,7 @@ none-placed true f k rest test e = (eqb-true f 0 test, e)
 none-placed false f k rest test e = absurd (eqb-false f 0 test e)
 
 -- the operations are not refused exactly when each is due and possible
-operations-due : (q : ℕ) (m : Memory) (content : List ℕ) (k : ℕ) (ops : List Input) → operationsFault q m content k ops .number ≡ 0
+operations-due : (q : ℕ) (m : Memory) (content : List Content) (k : ℕ) (ops : List Input) → operationsFault q m content k ops .number ≡ 0
     → DueInputs q m Operating ops × (possible m content ops ≡ true)
 unfolding operationsFault operationFault possible
 operations-due q m content k [] e = (tt, refl)
@@ -255,7 +297,7 @@ operations-due q m content k (i ∷ is) e =
     let rest = operations-due q m (after content (inputOperation m i)) (suc k) is (first .1) in
     ((input-due q m Operating i (here .0), rest .0), ap₂ _&&_ (eq-eqb _ 0 (here .1)) (rest .1))
 
-due-operations : (q : ℕ) (m : Memory) (content : List ℕ) (k : ℕ) (ops : List Input) → DueInputs q m Operating ops → possible m content ops ≡ true
+due-operations : (q : ℕ) (m : Memory) (content : List Content) (k : ℕ) (ops : List Input) → DueInputs q m Operating ops → possible m content ops ≡ true
     → operationsFault q m content k ops .number ≡ 0
 unfolding operationsFault operationFault possible placed
 due-operations q m content k [] due can = refl
@@ -265,16 +307,16 @@ due-operations q m content k (i ∷ is) due can =
     (due-operations q m (after content (inputOperation m i)) (suc k) is (due .1) (both .1))
 
 -- the values of init rows
-abbrev pub valuesOf : List Input → List ℕ
+abbrev pub valuesOf : List Input → List Content
 valuesOf inits = map (λ i. i .value) inits
 
 -- what it is that the filler refuses nothing
-pub record Unrefused (q : ℕ) (m : Memory) (values : List ℕ) (inits ops : List Input) : Type 0 where
+pub record Unrefused (q : ℕ) (m : Memory) (values : List Content) (inits ops : List Input) : Type 0 where
   pub starting : DueInputs q m Starting inits
   pub operating : DueInputs q m Operating ops
   pub can : possible m (start m values) ops ≡ true
 
-pub no-refusal : (q : ℕ) (m : Memory) (values : List ℕ) (k : ℕ) (inits ops : List Input) → rowsFault q m values k inits ops .number ≡ 0
+pub no-refusal : (q : ℕ) (m : Memory) (values : List Content) (k : ℕ) (inits ops : List Input) → rowsFault q m values k inits ops .number ≡ 0
     → Unrefused q m values inits ops
 unfolding rowsFault
 no-refusal q m values k [] ops e =
@@ -285,7 +327,7 @@ no-refusal q m values k (i ∷ is) ops e =
     record { starting = (input-due q m Starting i (first .0), rest .starting); operating = rest .operating; can = rest .can }
 
 -- and the other way round
-pub unrefused-zero : (q : ℕ) (m : Memory) (values : List ℕ) (k : ℕ) (inits ops : List Input) → Unrefused q m values inits ops
+pub unrefused-zero : (q : ℕ) (m : Memory) (values : List Content) (k : ℕ) (inits ops : List Input) → Unrefused q m values inits ops
     → rowsFault q m values k inits ops .number ≡ 0
 unfolding rowsFault
 unrefused-zero q m values k [] ops u = due-operations q m (start m values) k ops (u .operating) (u .can)

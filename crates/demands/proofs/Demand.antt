@@ -5,7 +5,7 @@
 use Prim.Native.Nat.{ℕ, _+_, _*_, _^_, _≤_, _<_}
 use mathlib.Core.Path.{_≡_, refl, sym, _∙_}
 use mathlib.Core.Logic.{inl, inr}
-use mathlib.Core.Bool.{Bool, true, false, _&&_, _||_, not, cond, true≢false}
+use mathlib.Core.Bool.{Bool, true, false, _&&_, cond, true≢false}
 use mathlib.Core.List.{List, [], _∷_}
 use native.Mathlib.Decide.{ℕ-discrete}
 use native.Mathlib.Omega.{arith}
@@ -36,6 +36,7 @@ use Rattle.memory.proofs.Phases.{no-fault-below}
 use Rattle.demands.proofs.WellFormed.{no-fault-well-formed}
 use Rattle.demands.proofs.WrongTrace.{right-or-rare}
 use Rattle.memory.proofs.Fold.{accepts-exactly-when}
+use Rattle.demands.proofs.RightTrace.{well-sized}
 use Rattle.demands.proofs.HonestBalances.{honest-clause}
 
 -- the first two of a list of tests
@@ -59,16 +60,6 @@ holds-not-malformed :
     (q : ℕ) (m : Memory) (n t : ℕ) (ch : Challenge) (xs : List Parsed) → Holds q m n t ch xs → malformed q m n t xs ≡ false
 unfolding malformed
 holds-not-malformed q m n t ch xs holds = rw (values-allowed q m n t ch (holds .values), holds .rows) refl
-
--- what is not malformed has an allowed size and count
-well-sized : (q : ℕ) (m : Memory) (n t : ℕ) (xs : List Parsed) → malformed q m n t xs ≡ false → allowed m n t ≡ true
-unfolding malformed
-well-sized q m n t xs e = go (allBelow q (n ∷ t ∷ [])) (allowed m n t) _ e
-  where
-    go : (a b c : Bool) → (not (a && b) || c) ≡ false → b ≡ true
-    go true true c e = refl
-    go true false c e = absurd (true≢false e)
-    go false b c e = absurd (true≢false e)
 
 -- a size that is allowed is at most the limit
 pub sized-limit : (m : Memory) (n : ℕ) → sized m n ≡ true → n ≤ limit
@@ -130,7 +121,7 @@ wrong-trace-bound q m n t xs prime wide room small good wrong = go (ℕ-discrete
     go (yes e) =
         elim
         (right-or-rare q m n t (rowsOf xs) (accepts q m n t xs) prime wide room small
-        (allowed-sized m n t (well-sized q m n t xs good) .0)
+        (allowed-sized m n t (well-sized q m n t xs good .1) .0)
         (no-fault-below q m n t [] xs e)
         (no-fault-well-formed q m n t xs e)
         (λ ch accepted. (holds ch accepted .range, holds ch accepted .memory))) [
@@ -162,7 +153,7 @@ demand-of-malformed q m n t xs two over = record {
 }
   where
     impossible : malformed q m n t xs ≡ false → ⊥
-    impossible good = true≢false (sym (well-sized q m n t xs good) ∙ over)
+    impossible good = true≢false (sym (well-sized q m n t xs good .1) ∙ over)
 
 -- Demand 3 for any prime that has room for all sizes and counts
 demand-roomy : (q : ℕ) (m : Memory) (n t : ℕ) (xs : List Parsed) → Prime q → 2 * limit ≤ q → Demand q m n t xs

@@ -11,6 +11,7 @@ use borrow.Author.Tests.{eqb-true, eqb-false, lt-ltb, le-ltb}
 use Rattle.memory.specs.declared.Memory.{Memory}
 use Rattle.memory.specs.declared.Phase.{Phase}
 use Rattle.memory.specs.declared.Phase.the-variants.{Starting, Operating}
+use Rattle.memory.specs.Content.{Content}
 use Rattle.memory.specs.Bytes.{Line}
 use Rattle.memory.specs.Rows.{opsDue}
 use Rattle.memory.specs.File.{Refusal, refusal}
@@ -20,20 +21,20 @@ use Rattle.runs.specs.Filler.{inputFault, Placed, placed, operationFault, opera
 use Rattle.runs.specs.FillFile.{InputLine, sound, faulty, parseInput, inputLineFault, inputsFault, inputOfLine, inputsOfLines}
 use Rattle.runs.specs.FillStream.{late}
 use Rattle.demands.specs.Statements.{TestedRowsLate}
-use Rattle.runs.proofs.FillStream.{Faulted, input-faulted}
+use Rattle.runs.proofs.FillStream.{SingleOrFault, input-single-or-fault}
 
 -- rows that meet none of 3, 5 and 6
 abbrev Formed : ℕ → Memory → Phase → List Input → Type 0
 Formed q m p [] = Unit {0}
 Formed q m p (i ∷ is) = (inputFault q m (opsDue m p) i ≡ 0) × Formed q m p is
 
-abbrev AllFaulted : List InputLine → Type 0
-AllFaulted [] = Unit {0}
-AllFaulted (x ∷ xs) = Faulted x × AllFaulted xs
+abbrev AllSingleOrFault : List InputLine → Type 0
+AllSingleOrFault [] = Unit {0}
+AllSingleOrFault (x ∷ xs) = SingleOrFault x × AllSingleOrFault xs
 
-lines-faulted : (q : ℕ) (lines : List Line) → AllFaulted (map (parseInput q) lines)
-lines-faulted q [] = tt
-lines-faulted q (line ∷ lines) = (input-faulted q line, lines-faulted q lines)
+lines-single-or-fault : (q : ℕ) (lines : List Line) → AllSingleOrFault (map (parseInput q) lines)
+lines-single-or-fault q [] = tt
+lines-single-or-fault q (line ∷ lines) = (input-single-or-fault q line, lines-single-or-fault q lines)
 
 -- no first fault: none here, and none after
 none-here : (b : Bool) (f l : ℕ) (rest : Refusal) → eqb f 0 ≡ b → cond b rest (refusal f l) .number ≡ 0 → (f ≡ 0) × (rest .number ≡ 0)
@@ -46,7 +47,7 @@ due-here true f e = e
 due-here false f e = absurd (omega arith)
 
 -- no first fault among the operations, and among the rows with j init rows to come
-operating : (q : ℕ) (m : Memory) (n t k : ℕ) (xs : List InputLine) → n ≤ k → AllFaulted xs → inputsFault q m n t k xs .number ≡ 0
+operating : (q : ℕ) (m : Memory) (n t k : ℕ) (xs : List InputLine) → n ≤ k → AllSingleOrFault xs → inputsFault q m n t k xs .number ≡ 0
     → Formed q m Operating (inputsOfLines xs)
 unfolding inputsFault inputsOfLines inputOfLine inputLineFault
 operating q m n t k [] h r e = tt
@@ -59,7 +60,7 @@ operating q m n t k (sound i ∷ xs) h r e =
       operating q m n t (suc k) xs (omega arith) (r .1) (here .1),
     )
 
-starting : (q : ℕ) (m : Memory) (n t j k : ℕ) (xs : List InputLine) → n ≡ k + j → AllFaulted xs → inputsFault q m n t k xs .number ≡ 0
+starting : (q : ℕ) (m : Memory) (n t j k : ℕ) (xs : List InputLine) → n ≡ k + j → AllSingleOrFault xs → inputsFault q m n t k xs .number ≡ 0
     → Formed q m Starting (take j (inputsOfLines xs)) × Formed q m Operating (drop j (inputsOfLines xs))
 unfolding inputsFault inputsOfLines inputOfLine inputLineFault
 starting q m n t zero k xs h r e = (tt, operating q m n t k xs (omega arith) r e)
@@ -78,7 +79,7 @@ unfolding late
 late-unless true f e = refl
 late-unless false f e = e
 
-impossible-late : (content : List ℕ) (o : Operation) → late (impossible content o) ≡ true
+impossible-late : (content : List Content) (o : Operation) → late (impossible content o) ≡ true
 unfolding impossible late
 impossible-late content (store addr value) = late-unless (ltb addr (length content)) 11 refl
 impossible-late content (load addr value old) = late-unless (ltb addr (length content)) 11 refl
@@ -99,7 +100,7 @@ unfolding placed
 late-first true f k rest h g = g
 late-first false f k rest h g = h
 
-operations-late : (q : ℕ) (m : Memory) (content : List ℕ) (k : ℕ) (ops : List Input) → Formed q m Operating ops → late (operationsFault q m content k ops .number) ≡ true
+operations-late : (q : ℕ) (m : Memory) (content : List Content) (k : ℕ) (ops : List Input) → Formed q m Operating ops → late (operationsFault q m content k ops .number) ≡ true
 unfolding operationsFault operationFault placed late
 operations-late q m content k [] h = refl
 operations-late q m content k (i ∷ is) h =
@@ -108,7 +109,7 @@ operations-late q m content k (i ∷ is) h =
     (late-first (eqb (impossible content x) 0) (impossible content x) k (operationsFault q m (after content x) (suc k) is) (impossible-late content x)
     (operations-late q m (after content x) (suc k) is (h .1)))
 
-rows-late : (q : ℕ) (m : Memory) (values : List ℕ) (k : ℕ) (inits ops : List Input) → Formed q m Starting inits → Formed q m Operating ops
+rows-late : (q : ℕ) (m : Memory) (values : List Content) (k : ℕ) (inits ops : List Input) → Formed q m Starting inits → Formed q m Operating ops
     → late (rowsFault q m values k inits ops .number) ≡ true
 unfolding rowsFault
 rows-late q m values k [] ops h g = operations-late q m (start m values) k ops g
@@ -116,5 +117,5 @@ rows-late q m values k (i ∷ is) ops h g = rw (h .0) (rows-late q m values (suc
 
 pub tested-rows-late : TestedRowsLate
 tested-rows-late q m n t lines e =
-    let formed = starting q m n t n 0 (map (parseInput q) lines) (omega arith) (lines-faulted q lines) e in
+    let formed = starting q m n t n 0 (map (parseInput q) lines) (omega arith) (lines-single-or-fault q lines) e in
     rows-late q m _ 1 _ _ (formed .0) (formed .1)

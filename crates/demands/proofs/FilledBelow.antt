@@ -15,9 +15,11 @@ use Rattle.memory.specs.declared.Op.the-variants.{Push, Enqueue, Other}
 use Rattle.memory.specs.declared.Phase.{Phase}
 use Rattle.memory.specs.declared.Phase.the-variants.{Starting, Operating}
 use Rattle.memory.specs.declared.Row.{Row}
+use Rattle.memory.specs.Content.{Content, noContent, numberOf}
 use Rattle.memory.specs.Bytes.{allBelow}
 use Rattle.memory.specs.Names.{opCode, isOp}
 use Rattle.memory.specs.Rows.{opsDue, opIn, rowBelow}
+use Rattle.memory.proofs.Content.{ContentBelow}
 use Rattle.runs.specs.Plain.{among}
 use Rattle.runs.specs.Honest.{Input, filledRow, bare, endRow, rangeRow, occurrences, rangeRowsFrom, Cell, cell, cellAt, ramAge, ramRow, ramCells, ramEnds, ramFrom, romEndsFrom, romFrom, setEndsFrom, setFrom, topCell, stackEnds, popTime, popRow, stackFrom, queueFrom, operationsFilled, filledRows}
 use Rattle.memory.proofs.ReadFields.{chosen}
@@ -62,36 +64,36 @@ due-named : (m : Memory) (p : Phase) (o : Op) → opIn o (opsDue m p) ≡ true �
 due-named m p o h = not-among (opsDue m p) o Other (other-not-due m p) h
 
 -- the numbers of a due input
-input-below : (q : ℕ) (m : Memory) (p : Phase) (i : Input) → DueInput q m p i → (i .guard < q) × (i .addr < q) × (i .value < q)
+input-below : (q : ℕ) (m : Memory) (p : Phase) (i : Input) → DueInput q m p i → (i .guard < q) × (i .addr < q) × ContentBelow q (i .value)
 unfolding allBelow
 input-below q m p i due =
     let guard = both-pass (ltb (i .guard) q) _ (due .0) in
     let addr = both-pass (ltb (i .addr) q) _ (guard .1) in
-    let value = both-pass (ltb (i .value) q) _ (addr .1) in
-    (ltb-true (i .guard) q (guard .0), ltb-true (i .addr) q (addr .0), ltb-true (i .value) q (value .0))
+    let value = both-pass (ltb (numberOf (i .value)) q) _ (addr .1) in
+    (ltb-true (i .guard) q (guard .0), ltb-true (i .addr) q (addr .0), (ltb-true (numberOf (i .value)) q (value .0), due .3))
 
 -- the row of a due input, with advice that is elements
-filled-printable : (q : ℕ) (m : Memory) (p : Phase) (i : Input) (o t v : ℕ) → DueInput q m p i → o < q → t < q → v < q
+filled-printable : (q : ℕ) (m : Memory) (p : Phase) (i : Input) (o : Content) (t v : ℕ) → DueInput q m p i → ContentBelow q o → t < q → v < q
     → Printable q (filledRow i o t v)
 unfolding filledRow columnsOf
 filled-printable q m p i o t v due ho ht hv =
     let b = input-below q m p i due in
-    record { named = due-named m p (i .op) (due .1); small = numbers-below q _ _ _ o t v (b .0) (b .1) (b .2) ho ht hv }
+    record { named = due-named m p (i .op) (due .1); small = numbers-below q _ _ _ (numberOf o) t v (b .0) (b .1) (b .2 .0) (ho .0) ht hv; single = (b .2 .1, ho .1) }
 
 -- the row of a due input without advice
 bare-printable : (q : ℕ) (m : Memory) (p : Phase) (i : Input) → 0 < q → DueInput q m p i → Printable q (bare i)
 unfolding bare
-bare-printable q m p i positive due = filled-printable q m p i 0 0 0 due positive positive positive
+bare-printable q m p i positive due = filled-printable q m p i noContent 0 0 due (positive, refl) positive positive
 
 bares-printable : (q : ℕ) (m : Memory) (p : Phase) (is : List Input) → 0 < q → DueInputs q m p is → AllPrintable q (map bare is)
 bares-printable q m p [] positive due = tt
 bares-printable q m p (i ∷ is) positive due = (bare-printable q m p i positive (due .0), bares-printable q m p is positive (due .1))
 
 -- end rows and range rows
-end-printable : (q value o t v : ℕ) → value < q → o < q → t < q → v < q → Printable q (endRow value o t v)
+end-printable : (q : ℕ) (value o : Content) (t v : ℕ) → ContentBelow q value → ContentBelow q o → t < q → v < q → Printable q (endRow value o t v)
 unfolding endRow columnsOf isOp opCode
 end-printable q value o t v hvalue ho ht hv =
-    record { named = refl; small = numbers-below q 0 0 value o t v (omega arith) (omega arith) hvalue ho ht hv }
+    record { named = refl; small = numbers-below q 0 0 (numberOf value) (numberOf o) t v (omega arith) (omega arith) (hvalue .0) (ho .0) ht hv; single = (hvalue .1, ho .1) }
 
 -- an occurrence count below the length of a list that is below q
 occurs-below : (q x : ℕ) (keys : List ℕ) (k : ℕ) → length keys + k < q → occurrences x keys < q
@@ -102,7 +104,7 @@ unfolding rangeRowsFrom rangeRow columnsOf isOp opCode
 ranges-printable q i zero ages few = tt
 ranges-printable q i (suc t) ages few =
     let v = occurs-below q i ages 0 few in
-    (record { named = refl; small = numbers-below q 0 0 0 0 0 _ (omega arith) (omega arith) (omega arith) (omega arith) (omega arith) v }, ranges-printable q (suc i) t ages few)
+    (record { named = refl; small = numbers-below q 0 0 0 0 0 _ (omega arith) (omega arith) (omega arith) (omega arith) (omega arith) v; single = (refl, refl) }, ranges-printable q (suc i) t ages few)
 
 printable-append : (q : ℕ) (xs ys : List Row) → AllPrintable q xs → AllPrintable q ys → AllPrintable q (xs ++ ys)
 printable-append q [] ys px py = py
@@ -110,30 +112,30 @@ printable-append q (x ∷ xs) ys px py = (px .0, printable-append q xs ys (px .1
 
 -- A cell whose content and time are elements.
 abbrev CellBelow : ℕ → Cell → Type 0
-CellBelow q c = (c .content < q) × (c .time < q)
+CellBelow q c = ContentBelow q (c .content) × (c .time < q)
 
-cell-below : (q v t : ℕ) → v < q → t < q → CellBelow q (cell v t)
+cell-below : (q : ℕ) (v : Content) (t : ℕ) → ContentBelow q v → t < q → CellBelow q (cell v t)
 unfolding cell
 cell-below q v t hv ht = (hv, ht)
 
 cell-at-below : (q : ℕ) (cells : List Cell) (i : ℕ) → 0 < q → All (CellBelow q) cells → CellBelow q (cellAt cells i)
 unfolding cellAt
-cell-at-below q cells i positive h = all-at (CellBelow q) cells i (cell 0 0) h (cell-below q 0 0 positive positive)
+cell-at-below q cells i positive h = all-at (CellBelow q) cells i (cell noContent 0) h (cell-below q noContent 0 (positive, refl) positive)
 
 -- the cells after an access
-ram-cells-below : (q : ℕ) (cells : List Cell) (clock : ℕ) (i : Input) → i .value < q → clock < q → All (CellBelow q) cells
+ram-cells-below : (q : ℕ) (cells : List Cell) (clock : ℕ) (i : Input) → ContentBelow q (i .value) → clock < q → All (CellBelow q) cells
     → All (CellBelow q) (ramCells cells clock i)
 unfolding ramCells
 ram-cells-below q cells clock i value time h =
     all-set (CellBelow q) cells (i .addr) _ h
-    (cell-below q _ clock (chosen (λ (x : ℕ). x < q) (eqb (i .guard) 1) value (cell-at-below q cells (i .addr) (omega arith) h .0)) time)
+    (cell-below q _ clock (chosen (ContentBelow q) (eqb (i .guard) 1) value (cell-at-below q cells (i .addr) (omega arith) h .0)) time)
 
 -- the end rows of a ram
 ram-ends-printable : (q : ℕ) (cells : List Cell) → 0 < q → All (CellBelow q) cells → AllPrintable q (ramEnds cells)
 unfolding ramEnds
 ram-ends-printable q [] positive h = tt
 ram-ends-printable q (c ∷ cells) positive h =
-    (end-printable q 0 (c .content) (c .time) 0 positive (h .0 .0) (h .0 .1) positive, ram-ends-printable q cells positive (h .1))
+    (end-printable q noContent (c .content) (c .time) 0 (positive, refl) (h .0 .0) (h .0 .1) positive, ram-ends-printable q cells positive (h .1))
 
 -- the rows of a ram from some cells and ages on; the clocks are elements, and the lookups are fewer than q
 ram-printable : (q : ℕ) (cells : List Cell) (clock : ℕ) (ages : List ℕ) (t : ℕ) (is : List Input) → clock + length is < q → length ages + length is < q
@@ -152,37 +154,37 @@ ram-printable q cells clock ages t (i ∷ is) soon few h due =
 abbrev Below : ℕ → ℕ → Type 0
 Below q x = x < q
 
-rom-ends-printable : (q k : ℕ) (values keys : List ℕ) → length keys + 0 < q → All (Below q) values → AllPrintable q (romEndsFrom k values keys)
+rom-ends-printable : (q k : ℕ) (values : List Content) (keys : List ℕ) → length keys + 0 < q → All (ContentBelow q) values → AllPrintable q (romEndsFrom k values keys)
 unfolding romEndsFrom
 rom-ends-printable q k [] keys few h = tt
 rom-ends-printable q k (v ∷ values) keys few h =
-    (end-printable q v 0 0 _ (h .0) (omega arith) (omega arith) (occurs-below q k keys 0 few), rom-ends-printable q (suc k) values keys few (h .1))
+    (end-printable q v noContent 0 _ (h .0) (omega arith, refl) (omega arith) (occurs-below q k keys 0 few), rom-ends-printable q (suc k) values keys few (h .1))
 
-rom-printable : (q : ℕ) (values keys : List ℕ) (is : List Input) → length keys + length is < q → All (Below q) values → DueInputs q Rom Operating is
+rom-printable : (q : ℕ) (values : List Content) (keys : List ℕ) (is : List Input) → length keys + length is < q → All (ContentBelow q) values → DueInputs q Rom Operating is
     → AllPrintable q (romFrom values keys is)
 unfolding romFrom
 rom-printable q values keys [] few h due = rom-ends-printable q 0 values keys few h
 rom-printable q values keys (i ∷ is) few h due = (
-  filled-printable q Rom Operating i _ 0 _ (due .0) (all-at (Below q) values (i .addr) 0 h (omega arith)) (omega arith) (occurs-below q (i .addr) keys (suc (length is)) few),
+  filled-printable q Rom Operating i _ 0 _ (due .0) (all-at (ContentBelow q) values (i .addr) noContent h (omega arith, refl)) (omega arith) (occurs-below q (i .addr) keys (suc (length is)) few),
   rom-printable q values (i .addr ∷ keys) is (omega arith) h (due .1),
 )
 
 -- the rows of a set
-set-ends-printable : (q : ℕ) (earlier values keys : List ℕ) → length keys + 0 < q → All (Below q) values → AllPrintable q (setEndsFrom earlier values keys)
+set-ends-printable : (q : ℕ) (earlier values : List Content) (keys : List ℕ) → length keys + 0 < q → All (ContentBelow q) values → AllPrintable q (setEndsFrom earlier values keys)
 unfolding setEndsFrom
 set-ends-printable q earlier [] keys few h = tt
 set-ends-printable q earlier (v ∷ values) keys few h = (
-  end-printable q v 0 0 _ (h .0) (omega arith) (omega arith) (chosen (Below q) (among v earlier) (omega arith) (occurs-below q v keys 0 few)),
+  end-printable q v noContent 0 _ (h .0) (omega arith, refl) (omega arith) (chosen (Below q) (among (numberOf v) earlier) (omega arith) (occurs-below q (numberOf v) keys 0 few)),
   set-ends-printable q (v ∷ earlier) values keys few (h .1),
 )
 
-set-printable : (q : ℕ) (values keys : List ℕ) (is : List Input) → length keys + length is < q → All (Below q) values → DueInputs q Set Operating is
+set-printable : (q : ℕ) (values : List Content) (keys : List ℕ) (is : List Input) → length keys + length is < q → All (ContentBelow q) values → DueInputs q Set Operating is
     → AllPrintable q (setFrom values keys is)
 unfolding setFrom
 set-printable q values keys [] few h due = set-ends-printable q [] values keys few h
 set-printable q values keys (i ∷ is) few h due = (
-  filled-printable q Set Operating i 0 0 _ (due .0) (omega arith) (omega arith) (occurs-below q (i .value) keys (suc (length is)) few),
-  set-printable q values (i .value ∷ keys) is (omega arith) h (due .1),
+  filled-printable q Set Operating i noContent 0 _ (due .0) (omega arith, refl) (omega arith) (occurs-below q (numberOf (i .value)) keys (suc (length is)) few),
+  set-printable q values (numberOf (i .value) ∷ keys) is (omega arith) h (due .1),
 )
 
 -- the rows of a stack
@@ -190,8 +192,8 @@ stack-ends-printable : (q : ℕ) (cells : List Cell) → 0 < q → All (CellBelo
 unfolding stackEnds
 stack-ends-printable q [] positive h = tt
 stack-ends-printable q (c ∷ cells) positive h =
-    printable-append q (stackEnds cells) (endRow 0 (c .content) (c .time) 0 ∷ []) (stack-ends-printable q cells positive (h .1))
-    (end-printable q 0 (c .content) (c .time) 0 positive (h .0 .0) (h .0 .1) positive, tt)
+    printable-append q (stackEnds cells) (endRow noContent (c .content) (c .time) 0 ∷ []) (stack-ends-printable q cells positive (h .1))
+    (end-printable q noContent (c .content) (c .time) 0 (positive, refl) (h .0 .0) (h .0 .1) positive, tt)
 
 -- the row of a pop
 pop-printable : (q : ℕ) (cells : List Cell) (clock : ℕ) (ages : List ℕ) (i : Input) → clock < q → length ages + 0 < q → All (CellBelow q) cells
@@ -200,7 +202,7 @@ unfolding popRow popTime topCell
 pop-printable q cells clock ages i time few h due =
     let top = cell-at-below q cells 0 (omega arith) h in
     filled-printable q Stack Operating i _ _ _ due
-    (chosen (Below q) (eqb (i .guard) 1) (top .0) (omega arith))
+    (chosen (ContentBelow q) (eqb (i .guard) 1) (top .0) (omega arith, refl))
     (chosen (Below q) (eqb (i .guard) 1) (top .1) (omega arith))
     (occurs-below q _ ages 0 few)
 
@@ -228,12 +230,12 @@ stack-printable q cells clock ages t (i ∷ is) soon few h due =
     )
 
 -- the rows of a queue
-queue-ends-printable : (q : ℕ) (content : List ℕ) → 0 < q → All (Below q) content → AllPrintable q (map (λ v. endRow 0 v 0 0) content)
+queue-ends-printable : (q : ℕ) (content : List Content) → 0 < q → All (ContentBelow q) content → AllPrintable q (map (λ v. endRow noContent v 0 0) content)
 queue-ends-printable q [] positive h = tt
 queue-ends-printable q (v ∷ content) positive h =
-    (end-printable q 0 v 0 0 positive (h .0) positive positive, queue-ends-printable q content positive (h .1))
+    (end-printable q noContent v 0 0 (positive, refl) (h .0) positive positive, queue-ends-printable q content positive (h .1))
 
-queue-printable : (q : ℕ) (content : List ℕ) (is : List Input) → 0 < q → All (Below q) content → DueInputs q Queue Operating is
+queue-printable : (q : ℕ) (content : List Content) (is : List Input) → 0 < q → All (ContentBelow q) content → DueInputs q Queue Operating is
     → AllPrintable q (queueFrom content is)
 unfolding queueFrom
 queue-printable q content [] positive h due = queue-ends-printable q content positive h
@@ -241,23 +243,23 @@ queue-printable q content (i ∷ is) positive h due =
     chosen (AllPrintable q) (isOp (i .op) Enqueue) (
       bare-printable q Queue Operating i positive (due .0),
       queue-printable q _ is positive
-          (chosen (All (Below q)) (eqb (i .guard) 1) (all-then (Below q) content (i .value) h (input-below q Queue Operating i (due .0) .2)) h) (due .1),
+          (chosen (All (ContentBelow q)) (eqb (i .guard) 1) (all-then (ContentBelow q) content (i .value) h (input-below q Queue Operating i (due .0) .2)) h) (due .1),
     ) (
-      filled-printable q Queue Operating i _ 0 0 (due .0) (chosen (Below q) (eqb (i .guard) 1) (all-at (Below q) content 0 0 h positive) positive) positive positive,
-      queue-printable q _ is positive (chosen (All (Below q)) (eqb (i .guard) 1) (all-rest (Below q) content h) h) (due .1),
+      filled-printable q Queue Operating i _ 0 0 (due .0) (chosen (ContentBelow q) (eqb (i .guard) 1) (all-at (ContentBelow q) content 0 noContent h (positive, refl)) (positive, refl)) positive positive,
+      queue-printable q _ is positive (chosen (All (ContentBelow q)) (eqb (i .guard) 1) (all-rest (ContentBelow q) content h) h) (due .1),
     )
 
 -- the init values are elements, and so are the cells of a ram that hold them
-values-below : (q : ℕ) (m : Memory) (p : Phase) (inits : List Input) → DueInputs q m p inits → All (Below q) (valuesOf inits)
+values-below : (q : ℕ) (m : Memory) (p : Phase) (inits : List Input) → DueInputs q m p inits → All (ContentBelow q) (valuesOf inits)
 values-below q m p [] due = tt
 values-below q m p (i ∷ is) due = (input-below q m p i (due .0) .2, values-below q m p is (due .1))
 
-start-below : (q : ℕ) (values : List ℕ) → All (Below q) values → 0 < q → All (CellBelow q) (map (λ v. cell v 0) values)
+start-below : (q : ℕ) (values : List Content) → All (ContentBelow q) values → 0 < q → All (CellBelow q) (map (λ v. cell v 0) values)
 start-below q [] h positive = tt
 start-below q (v ∷ values) h positive = (cell-below q v 0 (h .0) positive, start-below q values (h .1) positive)
 
 -- the rows after the init rows
-operations-printable : (q : ℕ) (m : Memory) (t : ℕ) (values : List ℕ) (ops : List Input) → t + 1 < q → length ops ≡ t → All (Below q) values
+operations-printable : (q : ℕ) (m : Memory) (t : ℕ) (values : List Content) (ops : List Input) → t + 1 < q → length ops ≡ t → All (ContentBelow q) values
     → DueInputs q m Operating ops → AllPrintable q (operationsFilled m t values ops)
 unfolding operationsFilled
 operations-printable q Ram t values ops room count h due = ram-printable q _ 1 [] t ops (omega arith) (omega arith) (start-below q values h (omega arith)) due
@@ -278,7 +280,7 @@ filled-printable-rows q m t inits ops room count u =
 printable-below : (q : ℕ) (rows : List Row) → AllPrintable q rows → RowsBelow q rows
 unfolding rowBelow columnsOf
 printable-below q [] p = tt
-printable-below q (row ∷ rows) p = (row-below q row (p .0 .small), printable-below q rows (p .1))
+printable-below q (row ∷ rows) p = (row-below q row (p .0 .single) (p .0 .small), printable-below q rows (p .1))
 
 -- and so have the rows that the filler writes
 pub filled-below : (q : ℕ) (m : Memory) (t : ℕ) (inits ops : List Input) → t + 1 < q → length ops ≡ t → Unrefused q m (valuesOf inits) inits ops

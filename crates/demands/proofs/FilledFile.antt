@@ -16,6 +16,7 @@ use Rattle.field.specs.Moduli.{modulusOf}
 use Rattle.memory.specs.declared.Memory.{Memory}
 use Rattle.memory.specs.declared.Op.{Op}
 use Rattle.memory.specs.declared.Phase.the-variants.{Starting, Operating}
+use Rattle.memory.specs.Content.{numberOf}
 use Rattle.memory.specs.Bytes.{Line, same, allBelow, linesOf}
 use Rattle.memory.specs.Names.{fillNames, inputNames, memoryNamed}
 use Rattle.memory.specs.Rows.{allowed, opsDue, opIn, formed}
@@ -132,7 +133,7 @@ small-names names line = small-either (same (line .text) names) _ 1 (small-eithe
 small-input : (q : ℕ) (m : Memory) (ops : List Op) (i : Input) → inputFault q m ops i ≤ 7
 unfolding inputFault
 small-input q m ops i =
-    small-either (allBelow q (i .guard ∷ i .addr ∷ i .value ∷ [])) _ 3
+    small-either (allBelow q (i .guard ∷ i .addr ∷ numberOf (i .value) ∷ [])) _ 3
     (small-either (opIn (i .op) ops) _ 5 (small-either (formed m (bare i)) 0 6 (omega arith) (omega arith)) (omega arith))
     (omega arith)
 

@@ -8,6 +8,7 @@ pub mod Sizes
 pub mod WrongTrace
 pub mod Advice
 pub mod HonestRows
+pub mod RightTrace
 pub mod HonestBalances
 pub mod Demand
 pub mod RoundTrip

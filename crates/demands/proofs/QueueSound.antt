@@ -9,14 +9,15 @@ use mathlib.Core.List.{List, [], _∷_, _++_, map, append-assoc, head-eq-of-cons
 use native.Mathlib.Nat.{zero-mod, zero-mul, mul-zero}
 use native.Mathlib.Omega.{arith}
 use lib.ListN.{length, length-append}
-use borrow.Author.Tests.{eq-eqb}
 use Rattle.algebra.specs.Modulo.{minus, times}
 use Rattle.memory.specs.declared.Memory.the-variants.{Queue}
 use Rattle.memory.specs.declared.Op.the-variants.{Enqueue, Dequeue}
 use Rattle.memory.specs.declared.Row.{Row}
+use Rattle.memory.specs.Content.{Content}
 use Rattle.memory.specs.Names.{opCode, isOp}
 use Rattle.memory.specs.Rows.{raiseBy, lowerBy, opsDue, depthFactor, depthProduct}
 use Rattle.memory.specs.Equations.{enqueues, dequeues}
+use Rattle.memory.proofs.Content.{content-same}
 use Rattle.runs.specs.Plain.{operationOf, allFit, fits, after, holds}
 use Rattle.memory.proofs.Operations.{Ops, rowAt, row-cases}
 use Rattle.runs.proofs.Differences.{minus-exact}
@@ -33,7 +34,7 @@ right-factor q x y h e = h (ap (λ (t : ℕ). (x * t) % q) e ∙ (ap (λ (t : �
 -- what is to be shown of the operations from some point on: `cells` are the elements in the queue, of `up` enqueued and `down` dequeued
 abbrev Sound : ℕ → List Row → Type 0
 Sound q ops =
-    (cells ends : List ℕ) (up down : ℕ)
+    (cells ends : List Content) (up down : ℕ)
     → length cells + down ≡ up
     → cells ++ enqueues ops ≡ dequeues ops ++ ends
     → depthProduct q up down ops ≢ 0
@@ -56,7 +57,7 @@ sound-dequeue q row rows positive rest [] ends up down depth equal product =
     (left-factor q (minus q (up + 1) (down + 1)) (depthProduct q (up + 0) (down + 1) rows) product
     (minus-exact q (up + 1) (down + 1) 0 (omega arith) positive))
 sound-dequeue q row rows positive rest (c ∷ cells) ends up down depth equal product =
-    rw (eq-eqb (row .old) c (sym (head-eq-of-cons-eq equal)))
+    rw (content-same (row .old) c (sym (head-eq-of-cons-eq equal)))
     (rest cells ends (up + 0) (down + 1) (omega arith) (tail-eq-of-cons-eq equal)
     (right-factor q (minus q (up + 1) (down + 1)) (depthProduct q (up + 0) (down + 1) rows) product))
 
@@ -90,7 +91,7 @@ sound-from q (row ∷ rows) due positive =
 
 -- where the elements enqueued are those dequeued and then any others, and the depth product is not 0, every operation fits
 pub queue-sound :
-    (q : ℕ) (ops : List Row) (ends : List ℕ)
+    (q : ℕ) (ops : List Row) (ends : List Content)
     → Ops Queue ops
     → length ops < q
     → enqueues ops ≡ dequeues ops ++ ends

@@ -9,11 +9,13 @@ use native.Mathlib.Omega.{arith}
 use lib.Dec.{eqb}
 use borrow.Author.Tests.{eqb-true, eq-eqb}
 use Rattle.algebra.specs.Sum.{bit}
+use Rattle.memory.specs.Content.{sameContent}
 use Rattle.memory.specs.Equations.{Triple}
+use Rattle.memory.proofs.Content.{same-content, content-same}
 
 -- the weight that counts one record
 unfoldable pub isRecord : Triple → Triple → ℕ
-isRecord r s = bit (eqb (r .x) (s .x) && (eqb (r .y) (s .y) && eqb (r .z) (s .z)))
+isRecord r s = bit (eqb (r .x) (s .x) && (sameContent (r .y) (s .y) && eqb (r .z) (s .z)))
 
 -- the parts of two records are equal
 abbrev pub SameParts : Triple → Triple → Type 0
@@ -21,7 +23,7 @@ SameParts r s = (r .x ≡ s .x) × (r .y ≡ s .y) × (r .z ≡ s .z)
 
 pub record-itself : (r : Triple) → isRecord r r ≡ 1
 unfolding isRecord bit
-record-itself r = simp (eq-eqb (r .x) (r .x) refl, eq-eqb (r .y) (r .y) refl, eq-eqb (r .z) (r .z) refl)
+record-itself r = simp (eq-eqb (r .x) (r .x) refl, content-same (r .y) (r .y) refl, eq-eqb (r .z) (r .z) refl)
 
 bit-both : (a b : Bool) → 0 < bit (a && b) → (0 < bit a) × (0 < bit b)
 unfolding bit
@@ -37,10 +39,10 @@ bit-true false h = absurd (omega arith)
 pub counted-parts : (r s : Triple) → 0 < isRecord r s → SameParts r s
 unfolding isRecord
 counted-parts r s h =
-    let outer = bit-both (eqb (r .x) (s .x)) (eqb (r .y) (s .y) && eqb (r .z) (s .z)) h in
-    let inner = bit-both (eqb (r .y) (s .y)) (eqb (r .z) (s .z)) (outer .1) in (
+    let outer = bit-both (eqb (r .x) (s .x)) (sameContent (r .y) (s .y) && eqb (r .z) (s .z)) h in
+    let inner = bit-both (sameContent (r .y) (s .y)) (eqb (r .z) (s .z)) (outer .1) in (
       eqb-true (r .x) (s .x) (bit-true (eqb (r .x) (s .x)) (outer .0)),
-      eqb-true (r .y) (s .y) (bit-true (eqb (r .y) (s .y)) (inner .0)),
+      same-content (r .y) (s .y) (bit-true (sameContent (r .y) (s .y)) (inner .0)),
       eqb-true (r .z) (s .z) (bit-true (eqb (r .z) (s .z)) (inner .1)),
     )
 

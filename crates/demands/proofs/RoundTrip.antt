@@ -13,12 +13,14 @@ use Rattle.memory.specs.declared.Op.the-variants.{Init, Access, Look, Member, P
 use Rattle.memory.specs.declared.Row.{Row}
 use Rattle.memory.specs.declared.Parsed.{Parsed}
 use Rattle.memory.specs.declared.Parsed.the-variants.{Sound}
+use Rattle.memory.specs.Content.{numberOf}
 use Rattle.memory.specs.Text.{bytes}
 use Rattle.memory.specs.Bytes.{Line, longest, fitting, comma, feed, same, onto, fields, digit, digits, numerals, numbers, allBelow, named, readable, fieldsOf, before, linesOf}
 use Rattle.memory.specs.Names.{opName, opNamed, opCode, isOp}
 use Rattle.memory.specs.Rows.{rowWith, rowRead, parseRow}
 use Rattle.memory.specs.Print.{numberText, numbersText, rowText, rowsText}
 use Rattle.memory.proofs.Decimal.{tenDigits, number-digits, number-value, number-numeral}
+use Rattle.memory.proofs.ReadRows.{SingleRow}
 use Rattle.runs.proofs.Lengths.{both-true, columnsOf, row-length}
 
 -- a text whose bytes are all above c: a field's are above the comma, a line's above the line feed
@@ -150,7 +152,7 @@ numbers-line x (y ∷ ys) =
 pub row-line : (row : Row) → rowText row ≡ lineText row ++ feed ∷ []
 unfolding rowText lineText columnsOf joined
 row-line row =
-    let rest : List ℕ = row .addr ∷ row .value ∷ row .old ∷ row .time ∷ row .version ∷ [] in
+    let rest : List ℕ = row .addr ∷ numberOf (row .value) ∷ numberOf (row .old) ∷ row .time ∷ row .version ∷ [] in
     ap (λ (t : List ℕ). opName (row .op) ++ comma ∷ t) (numbers-line (row .guard) rest)
     ∙ sym (append-assoc (opName (row .op)) (comma ∷ joined (numberText (row .guard)) rest) (feed ∷ []))
 
@@ -170,10 +172,12 @@ lines-of-rows (row ∷ rows) rest =
     ∙ line-first (lineText row) (rowsText rows ++ rest) (line-above row)
     ∙ ap (λ (ls : List Line). lineOf row ∷ ls) (lines-of-rows rows rest)
 
--- a row that a line can hold: its op has a name, and its numbers are below q
+-- a row that a line can hold: its op has a name, its contents are nothing but their numbers, and
+-- its numbers are below q
 pub record Printable (q : ℕ) (row : Row) : Type 0 where
   pub named : isOp (row .op) Other ≡ false
   pub small : allBelow q (columnsOf row) ≡ true
+  pub single : SingleRow row
 
 pub allBelow-more : (q r : ℕ) (ns : List ℕ) → q ≤ r → allBelow q ns ≡ true → allBelow r ns ≡ true
 unfolding allBelow
@@ -224,7 +228,16 @@ unfolding parseRow rowRead rowWith lineOf lineText columnsOf
 row-round-trip q row h p =
     let digits : allBelow tenDigits (columnsOf row) ≡ true = allBelow-more q tenDigits (columnsOf row) h (p .small) in
     let read = fields-back q (opName (row .op)) (columnsOf row) h (name-above (row .op)) (p .small) (omega (arith, line-length row digits)) in
-    rw (read, name-back (row .op) (p .named))
+    ap rowRead read
+    ∙ (λ j. Sound (record {
+      op = name-back (row .op) (p .named) j;
+      guard = row .guard;
+      addr = row .addr;
+      value = p .single .0 j;
+      old = p .single .1 j;
+      time = row .time;
+      version = row .version;
+    }))
 
 -- rows that lines can hold
 abbrev pub AllPrintable : ℕ → List Row → Type 0

@@ -10,19 +10,21 @@ use lib.Dec.{eqb}
 use lib.ListN.{length, length-append, length-map}
 use borrow.Author.Tests.{leb-true}
 use Rattle.algebra.specs.Modulo.{plus, minus}
-use Rattle.algebra.specs.Vector.{Below}
 use Rattle.memory.specs.declared.Memory.{Memory}
 use Rattle.memory.specs.declared.Memory.the-variants.{Stack, Queue}
 use Rattle.memory.specs.declared.Op.the-variants.{Push, Pop, Enqueue, Dequeue}
 use Rattle.memory.specs.declared.Row.{Row}
+use Rattle.memory.specs.Content.{Content}
 use Rattle.memory.specs.Names.{opCode, isOp}
 use Rattle.memory.specs.Rows.{raiseBy, lowerBy, raised, lowered, opsDue}
 use Rattle.memory.specs.Equations.{Triple, triple, pair, Lookup, initWrites, lookRead, lookWrite, romEnds, setInit, memberRead, memberWrite}
 use Rattle.memory.specs.Equations.{rangeSetup, rangeRead, rangeWrite, rangeEnds, accessRead, newOf, accessWrites, accessLookups, cellEnds}
 use Rattle.memory.specs.Equations.{pushWrite, pushWrites, popRead, popReads, popLookup, popLookups, enqueues, dequeues, endOlds}
 use Rattle.memory.specs.Gates.{rowsWith, takes}
+use Rattle.memory.proofs.Content.{ContentBelow}
 use Rattle.memory.proofs.Operations.{Ops, rowAt, row-cases}
-use Rattle.demands.proofs.Balance.{TriplesBelow}
+use Rattle.demands.proofs.Balance.{TriplesBelow, ContentsBelow}
+use Rattle.memory.proofs.ReadFields.{chosen}
 use Rattle.memory.proofs.ReadRows.{RowBelow, RowsBelow}
 
 -- the sum and the difference modulo q are below q
@@ -39,9 +41,9 @@ pub record Triples (q k : ℕ) (ts : List Triple) : Type 0 where
   pub count : length ts ≡ k
   pub below : TriplesBelow q ts
 
--- the entries of a triple are below q
+-- the entries of a triple are below q, and its content nothing but its number
 abbrev TripleBelow : ℕ → Triple → Type 0
-TripleBelow q t = (t .x < q) × (t .y < q) × (t .z < q)
+TripleBelow q t = (t .x < q) × ContentBelow q (t .y) × (t .z < q)
 
 -- no triple, one more triple, and two lists of triples
 no-triples : {q : ℕ} → Triples q 0 []
@@ -96,16 +98,16 @@ rom-ends q i (row ∷ rows) l h =
 -- set
 pub set-inits : (q : ℕ) (rows : List Row) → RowsBelow q rows → Triples q (length rows) (map setInit rows)
 unfolding setInit pair triple
-set-inits q = row-triples q setInit (λ row h. (h .2, positive q _ (h .0), positive q _ (h .0)))
+set-inits q = row-triples q setInit (λ row h. (h .2 .0, (positive q _ (h .0), refl), positive q _ (h .0)))
 
 pub member-reads : (q : ℕ) (rows : List Row) → RowsBelow q rows → Triples q (length rows) (map memberRead rows)
 unfolding memberRead pair triple
-member-reads q = row-triples q memberRead (λ row h. (h .2, h .5, positive q _ (h .0)))
+member-reads q = row-triples q memberRead (λ row h. (h .2 .0, (h .5, refl), positive q _ (h .0)))
 
 pub member-writes : (q : ℕ) (rows : List Row) → RowsBelow q rows → Triples q (length rows) (map (memberWrite q) rows)
 unfolding memberWrite pair triple
 member-writes q =
-    row-triples q (memberWrite q) (λ row h. (h .2, plus-below q (row .version) 1 (positive q _ (h .0)), positive q _ (h .0)))
+    row-triples q (memberWrite q) (λ row h. (h .2 .0, (plus-below q (row .version) 1 (positive q _ (h .0)), refl), positive q _ (h .0)))
 
 -- k lookups with entries below q
 abbrev LookupsBelow : ℕ → List Lookup → Type 0
@@ -120,13 +122,13 @@ pub record LookedUp (q k : ℕ) (ls : List Lookup) : Type 0 where
 pub range-setup : (q i t : ℕ) → i + t ≤ q → Triples q t (rangeSetup i t)
 unfolding rangeSetup pair triple
 range-setup q i zero l = no-triples
-range-setup q i (suc t) l = one-more (omega arith, omega arith, omega arith) (range-setup q (suc i) t (omega arith))
+range-setup q i (suc t) l = one-more (omega arith, (omega arith, refl), omega arith) (range-setup q (suc i) t (omega arith))
 
 -- the pairs that the lookups read and write
 range-reads-below : (q : ℕ) (ls : List Lookup) → LookupsBelow q ls → TriplesBelow q (map rangeRead ls)
 unfolding rangeRead pair triple
 range-reads-below q [] h = tt
-range-reads-below q (l ∷ ls) h = (h .0, h .1, positive q _ (h .0), range-reads-below q ls (h .2))
+range-reads-below q (l ∷ ls) h = (h .0, (h .1, refl), positive q _ (h .0), range-reads-below q ls (h .2))
 
 pub range-reads : {q k : ℕ} {ls : List Lookup} → LookedUp q k ls → Triples q k (map rangeRead ls)
 range-reads {q} {k} {ls} h =
@@ -136,7 +138,7 @@ range-writes-below : (q : ℕ) (ls : List Lookup) → LookupsBelow q ls → Trip
 unfolding rangeWrite pair triple
 range-writes-below q [] h = tt
 range-writes-below q (l ∷ ls) h =
-    (h .0, plus-below q (l .version) 1 (positive q _ (h .0)), positive q _ (h .0), range-writes-below q ls (h .2))
+    (h .0, (plus-below q (l .version) 1 (positive q _ (h .0)), refl), positive q _ (h .0), range-writes-below q ls (h .2))
 
 pub range-writes : {q k : ℕ} {ls : List Lookup} → LookedUp q k ls → Triples q k (map (rangeWrite q) ls)
 range-writes {q} {k} {ls} h =
@@ -147,7 +149,7 @@ pub range-ends : (q i : ℕ) (rows : List Row) → i + length rows ≤ q → Row
 unfolding rangeEnds pair triple
 range-ends q i [] l h = no-triples
 range-ends q i (row ∷ rows) l h =
-    one-more (omega arith, h .0 .5, omega arith) (range-ends q (suc i) rows (omega arith) (h .1))
+    one-more (omega arith, (h .0 .5, refl), omega arith) (range-ends q (suc i) rows (omega arith) (h .1))
 
 -- ram
 pub access-reads : (q : ℕ) (rows : List Row) → RowsBelow q rows → Triples q (length rows) (map accessRead rows)
@@ -165,7 +167,7 @@ pub access-writes :
 unfolding accessWrites newOf triple
 access-writes q clock [] l h = no-triples
 access-writes q clock (row ∷ rows) l h =
-    one-more (h .0 .1, chosen-below q (eqb (row .guard) 1) (row .value) (row .old) (h .0 .2) (h .0 .3), omega arith)
+    one-more (h .0 .1, chosen (ContentBelow q) (eqb (row .guard) 1) (h .0 .2) (h .0 .3), omega arith)
     (access-writes q (suc clock) rows (omega arith) (h .1))
 
 -- one lookup for each access
@@ -278,29 +280,29 @@ pop-lookups q (row ∷ rows) due h =
     (due .0)
     (due .1)
 
--- k numbers below q
-pub record Numbers (q k : ℕ) (xs : List ℕ) : Type 0 where
+-- k contents that are numbers below q
+pub record Contents (q k : ℕ) (xs : List Content) : Type 0 where
   pub count : length xs ≡ k
-  pub below : Below q xs
+  pub below : ContentsBelow q xs
 
--- two lists of numbers
-numbers-append-below : (q : ℕ) (xs ys : List ℕ) → Below q xs → Below q ys → Below q (xs ++ ys)
-numbers-append-below q [] ys hx hy = hy
-numbers-append-below q (x ∷ xs) ys hx hy = (hx .0, numbers-append-below q xs ys (hx .1) hy)
+-- two lists of contents
+contents-append-below : (q : ℕ) (xs ys : List Content) → ContentsBelow q xs → ContentsBelow q ys → ContentsBelow q (xs ++ ys)
+contents-append-below q [] ys hx hy = hy
+contents-append-below q (x ∷ xs) ys hx hy = (hx .0, contents-append-below q xs ys (hx .1) hy)
 
-pub append-numbers : {q j k : ℕ} {xs ys : List ℕ} → Numbers q j xs → Numbers q k ys → Numbers q (j + k) (xs ++ ys)
-append-numbers {q} {j} {k} {xs} {ys} hx hy = record {
+pub append-contents : {q j k : ℕ} {xs ys : List Content} → Contents q j xs → Contents q k ys → Contents q (j + k) (xs ++ ys)
+append-contents {q} {j} {k} {xs} {ys} hx hy = record {
   count = omega (arith, length-append xs ys, hx .count, hy .count);
-  below = numbers-append-below q xs ys (hx .below) (hy .below);
+  below = contents-append-below q xs ys (hx .below) (hy .below);
 }
 
 -- queue
-pub enqueued-numbers : (q : ℕ) (ops : List Row) → Ops Queue ops → RowsBelow q ops → Numbers q (raised ops) (enqueues ops)
+pub enqueued-contents : (q : ℕ) (ops : List Row) → Ops Queue ops → RowsBelow q ops → Contents q (raised ops) (enqueues ops)
 unfolding raised raiseBy enqueues isOp opCode rowAt opsDue
-enqueued-numbers q [] due h = record { count = refl; below = tt }
-enqueued-numbers q (row ∷ rows) due h =
-    let rest = enqueued-numbers q rows (due .2) (h .1) in
-    row-cases (λ (r : Row). Numbers q (raised (r ∷ rows)) (enqueues (r ∷ rows))) Enqueue Dequeue row
+enqueued-contents q [] due h = record { count = refl; below = tt }
+enqueued-contents q (row ∷ rows) due h =
+    let rest = enqueued-contents q rows (due .2) (h .1) in
+    row-cases (λ (r : Row). Contents q (raised (r ∷ rows)) (enqueues (r ∷ rows))) Enqueue Dequeue row
     (record { count = omega (arith, rest .count); below = (h .0 .2, rest .below) })
     (record { count = omega (arith, rest .count); below = rest .below })
     (record { count = omega (arith, rest .count); below = rest .below })
@@ -308,12 +310,12 @@ enqueued-numbers q (row ∷ rows) due h =
     (due .0)
     (due .1)
 
-pub dequeued-numbers : (q : ℕ) (ops : List Row) → Ops Queue ops → RowsBelow q ops → Numbers q (lowered ops) (dequeues ops)
+pub dequeued-contents : (q : ℕ) (ops : List Row) → Ops Queue ops → RowsBelow q ops → Contents q (lowered ops) (dequeues ops)
 unfolding lowered lowerBy dequeues isOp opCode rowAt opsDue
-dequeued-numbers q [] due h = record { count = refl; below = tt }
-dequeued-numbers q (row ∷ rows) due h =
-    let rest = dequeued-numbers q rows (due .2) (h .1) in
-    row-cases (λ (r : Row). Numbers q (lowered (r ∷ rows)) (dequeues (r ∷ rows))) Enqueue Dequeue row
+dequeued-contents q [] due h = record { count = refl; below = tt }
+dequeued-contents q (row ∷ rows) due h =
+    let rest = dequeued-contents q rows (due .2) (h .1) in
+    row-cases (λ (r : Row). Contents q (lowered (r ∷ rows)) (dequeues (r ∷ rows))) Enqueue Dequeue row
     (record { count = omega (arith, rest .count); below = rest .below })
     (record { count = omega (arith, rest .count); below = rest .below })
     (record { count = omega (arith, rest .count); below = (h .0 .3, rest .below) })
@@ -321,9 +323,9 @@ dequeued-numbers q (row ∷ rows) due h =
     (due .0)
     (due .1)
 
-pub ended-numbers : (q : ℕ) (rows : List Row) → RowsBelow q rows → Numbers q (length rows) (endOlds rows)
+pub ended-contents : (q : ℕ) (rows : List Row) → RowsBelow q rows → Contents q (length rows) (endOlds rows)
 unfolding endOlds
-ended-numbers q [] h = record { count = refl; below = tt }
-ended-numbers q (row ∷ rows) h =
-    let rest = ended-numbers q rows (h .1) in
+ended-contents q [] h = record { count = refl; below = tt }
+ended-contents q (row ∷ rows) h =
+    let rest = ended-contents q rows (h .1) in
     record { count = ap suc (rest .count); below = (h .0 .3, rest .below) }

@@ -9,7 +9,6 @@ use mathlib.Core.Bool.{true}
 use mathlib.Core.List.{List, [], _∷_, _++_, map}
 use native.Mathlib.Omega.{arith}
 use lib.ListN.{length}
-use borrow.Author.Tests.{eq-eqb}
 use Rattle.algebra.specs.Modulo.{minus}
 use Rattle.algebra.specs.Multiset.{total, EquallyOften}
 use Rattle.algebra.proofs.Multiset.{total-append}
@@ -19,6 +18,7 @@ use Rattle.memory.specs.declared.Row.{Row}
 use Rattle.memory.specs.Names.{opCode, isOp}
 use Rattle.memory.specs.Rows.{raiseBy, lowerBy, opsDue}
 use Rattle.memory.specs.Equations.{Triple, triple, pushWrite, pushWrites, popRead, popReads, popLookup, popLookups}
+use Rattle.memory.proofs.Content.{content-same}
 use Rattle.runs.specs.Plain.{operationOf, allFit, fits, after}
 use Rattle.runs.specs.Honest.{Cell, cell}
 use Rattle.runs.proofs.Ages.{InRange}
@@ -125,7 +125,7 @@ sound-pop q t row rows wide room due rest (c ∷ cells) up down ends depth left 
     let height = minus-exact q up down (suc (length cells)) (omega arith) (omega arith) in
     let live = pop-reads-live q t row rows wide due (c ∷ cells) up down ends left (ages .0) (ages .1) same in
     let top = record-of-top (triple (minus q up down) (row .old) (row .time)) c cells height live in
-    rw (pop-top c cells (row .old), eq-eqb (row .old) (c .content) (top .0), pop-after c cells (row .old))
+    rw (pop-top c cells (row .old), content-same (row .old) (c .content) (top .0), pop-after c cells (row .old))
     (rest cells (up + 0) (down + 1) ends (omega arith) (omega arith) (ages .2)
     (λ weight. omega (arith, same weight, same-record weight height (top .0) (top .1))))
   where

@@ -264,9 +264,9 @@ right-or-rare-queue q n t rows test prime none room below well balancing =
     let deep : lowered ops ≤ raised ops =
     omega (arith, depth-at-least-zero q ops (omega arith) (well .named) 0 0 (omega arith) product)
     in
-    let ins = Sizes.enqueued-numbers q ops (well .named) (below .operations) in
+    let ins = Sizes.enqueued-contents q ops (well .named) (below .operations) in
     let outs =
-    Sizes.append-numbers (Sizes.dequeued-numbers q ops (well .named) (below .operations)) (Sizes.ended-numbers q ends (below .ends))
+    Sizes.append-contents (Sizes.dequeued-contents q ops (well .named) (below .operations)) (Sizes.ended-contents q ends (below .ends))
     in
     elim
     (hashes-bound q (length (enqueues ops)) (enqueues ops) (dequeues ops ++ endOlds ends) prime

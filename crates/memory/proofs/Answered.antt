@@ -1,5 +1,5 @@
 -- The answer and what is malformed: what meets one of 1 to 7 is answered so at every challenge, and
--- what is not malformed by 0, 8, 9 or 10.
+-- what is not malformed by 0, 8, 9 or 10; its rows meet no fault, or 8.
 -- Assumes nothing.
 use Prim.Native.Nat.{ℕ, _+_, _≤_}
 use mathlib.Core.Path.{_≡_, refl, ap, sym, subst, _∙_}
@@ -23,6 +23,7 @@ use Rattle.memory.specs.File.{rowsOf, parsedRow, Refusal, refusal, first
 use Rattle.memory.specs.Bound.{malformed}
 use Rattle.memory.specs.Statements.{MalformedAnswered, WellFormedAnswered}
 use Rattle.memory.proofs.ReadFields.{chosen}
+use Rattle.memory.proofs.ReadRows.{neither-passes}
 use Rattle.memory.proofs.Fold.{fold-is-file}
 
 -- one of 1 to 7
@@ -128,6 +129,19 @@ late-answer a none most = go (leb 1 a) refl (leb a 7) refl none
     go false l high h e = inl (omega (arith, leb-false 1 a l))
     go true l false h e = inr (omega (arith, leb-false a 7 h), most)
     go true l true h e = absurd (true≢false e)
+
+-- the rows of what is not malformed meet no fault, or 8
+pub well-formed-fault :
+    (q : ℕ) (m : Memory) (n t : ℕ) (xs : List Parsed) → malformed q m n t xs ≡ false
+    → (firstFault q m n t [] xs .number ≡ 0) ⊎ (firstFault q m n t [] xs .number ≡ 8)
+unfolding malformed
+well-formed-fault q m n t xs good =
+    let most = first-most q m n t [] xs in
+    let none = neither-passes (not (allBelow q (n ∷ t ∷ []) && allowed m n t)) (early (firstFault q m n t [] xs .number)) good .1 in
+    elim (late-answer (firstFault q m n t [] xs .number) none (omega arith)) [
+      | inl z ↦ inl z
+      | inr late ↦ inr (omega (arith, late .0))
+    ]
 
 -- what is not malformed is accepted, or refused by 8, 9 or 10
 pub well-formed-answered : WellFormedAnswered

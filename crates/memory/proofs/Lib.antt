@@ -1,3 +1,4 @@
+pub mod Content
 pub mod Cases
 pub mod Operations
 pub mod Same

@@ -1,11 +1,13 @@
--- Complete and well-formed rows by their phases: a list of rows meets no fault exactly when it is n init rows, t operations, the end rows and the range rows,
--- each row with an op of its phase and in its form, and the operations do not sink.
+-- Complete and well-formed rows by their phases: a list of rows meets no fault exactly when it is n
+-- init rows, t operations, the end rows and the range rows, each row with an op of its phase and in
+-- its form, and the operations do not sink. A list that meets 8 has such rows up to the last
+-- operation, and they sink.
 -- Assumes nothing.
 use Prim.Native.Nat.{ℕ, zero, suc, _+_, _≤_, _<_, _%_}
 use native.Mathlib.Nat.{eq-zero-or-pos, one-mul, mod-mod}
 use native.Mathlib.Omega.{arith}
 use mathlib.Core.Path.{_≡_, refl, sym, _∙_, ap, ap₂, subst}
-use mathlib.Core.Logic.{_⊎_, inl, inr}
+use mathlib.Core.Logic.{_⊎_, inl, inr, _≢_}
 use mathlib.Core.Bool.{Bool, true, false, _&&_, cond, and-false, or-false}
 use mathlib.Core.List.{List, [], _∷_, _++_, map, append-nil, append-assoc}
 use lib.Dec.{eqb, leb, ltb}
@@ -27,7 +29,7 @@ use Rattle.memory.specs.Rows.{raiseBy, lowerBy, raised, lowered, endsDue
 use Rattle.memory.specs.Equations.{listsOf, endRows, rangeRows, fileLists}
 use Rattle.memory.specs.File.{parsedRow, rowsOf, Refusal, refusal, firstFault}
 use Rattle.memory.proofs.Operations.{Ops, isOp-true}
-use Rattle.memory.proofs.ReadRows.{both-pass, RowBelow, RowsBelow, fault-not-zero, row-below, below-row, split-below, chosen-zero}
+use Rattle.memory.proofs.ReadRows.{both-pass, RowBelow, RowsBelow, formed-single, row-below, below-row, split-below, chosen-first}
 
 -- a row of a phase: its op is one of those due there, and the row has its form
 abbrev pub DueRow : Memory → Phase → Row → Type 0
@@ -43,11 +45,31 @@ fails-test : (b : Bool) → _≡_ {A = ℕ} (cond b 8 0) 0 → b ≡ false
 fails-test true e = absurd (omega (arith, e))
 fails-test false e = refl
 
--- the first of two faults is none where the result is none, and then neither is the rest
-passes-first : (b : Bool) (f l : ℕ) (rest : Refusal) → eqb f 0 ≡ b → cond b rest (refusal f l) .number ≡ 0 → (f ≡ 0) × (rest .number ≡ 0)
+-- the first of two faults is the result, or it is none and the rest is the result
+first-or-rest :
+    (k : ℕ) (b : Bool) (f l : ℕ) (rest : Refusal) → eqb f 0 ≡ b → cond b rest (refusal f l) .number ≡ k
+    → ((f ≡ 0) × (rest .number ≡ k)) ⊎ ((f ≢ 0) × (f ≡ k))
 unfolding refusal
-passes-first true f l rest e h = (eqb-true f 0 e, h)
-passes-first false f l rest e h = absurd (eqb-false f 0 e h)
+first-or-rest k true f l rest e h = inl (eqb-true f 0 e, h)
+first-or-rest k false f l rest e h = inr (eqb-false f 0 e, h)
+
+-- at the end of file there is no 8
+end-not-eight : (b : Bool) (l : ℕ) → cond b (refusal 7 l) (refusal 0 0) .number ≡ 8 → ⊥
+unfolding refusal
+end-not-eight true l h = omega arith
+end-not-eight false l h = omega arith
+
+-- a number that is none of 1 to 7
+abbrev Late : ℕ → Type 0
+Late k = (j : ℕ) → 1 ≤ j → j ≤ 7 → j ≢ k
+
+-- 0 is such a number,
+none-late : Late 0
+none-late j low high = omega arith
+
+-- and so is 8
+eight-late : Late 8
+eight-late j low high = omega arith
 
 -- how often the depth rises and falls in two lists of rows
 pub raised-append : (xs ys : List Row) → raised (xs ++ ys) ≡ raised xs + raised ys
@@ -265,12 +287,21 @@ due-ops m [] due = tt
 due-ops m (row ∷ rows) due = (due .0 .0, formed-guard m row (due .0 .1), due-ops m rows (due .1))
 
 module _ (q : ℕ) (m : Memory) (n t : ℕ) where
+  -- the first fault is that of the first line, or this has none and it is that of the lines after
+  first-step : (k : ℕ) (rows : List Row) (x : Parsed) (xs : List Parsed) → firstFault q m n t rows (x ∷ xs) .number ≡ k
+      → ((lineFault q m n t rows x ≡ 0) × (firstFault q m n t (rows ++ parsedRow x ∷ []) xs .number ≡ k))
+      ⊎ ((lineFault q m n t rows x ≢ 0) × (lineFault q m n t rows x ≡ k))
+  unfolding firstFault
+  first-step k rows x xs h =
+      first-or-rest k (eqb (lineFault q m n t rows x) 0) (lineFault q m n t rows x) (length rows + 4) (firstFault q m n t (rows ++ parsedRow x ∷ []) xs) refl h
+
   -- where no fault is met, the first line has none, nor have the lines after it
   pub no-fault-step : (rows : List Row) (x : Parsed) (xs : List Parsed) → firstFault q m n t rows (x ∷ xs) .number ≡ 0
       → (lineFault q m n t rows x ≡ 0) × (firstFault q m n t (rows ++ parsedRow x ∷ []) xs .number ≡ 0)
-  unfolding firstFault
-  no-fault-step rows x xs h =
-      passes-first (eqb (lineFault q m n t rows x) 0) (lineFault q m n t rows x) (length rows + 4) (firstFault q m n t (rows ++ parsedRow x ∷ []) xs) refl h
+  no-fault-step rows x xs h = elim (first-step 0 rows x xs h) [
+    | inl passed ↦ passed
+    | inr met ↦ absurd (met .0 (met .1))
+  ]
 
   -- the rows that have passed do not meet 8
   abbrev pub Calm : List Row → Type 0
@@ -342,16 +373,32 @@ module _ (q : ℕ) (m : Memory) (n t : ℕ) where
   calm-length rows row =
       ap (λ (k : ℕ). leb 1 t && (eqb k (n + t) && sunk q m (rows ++ row ∷ []))) (sym (length-append rows (row ∷ [])))
 
+  -- a row that meets none of 1 to 7: its numbers are below q, it is one of its phase, and the test
+  -- for 8 gives its fault
+  row-kept : (k : ℕ) → Late k → (rows : List Row) (row : Row) → lineFault q m n t rows (Sound row) ≡ k
+      → RowBelow q row × DueRow m (phaseAfter m n t rows) row
+      × (cond (leb 1 t && (eqb (length rows + 1) (n + t) && sunk q m (rows ++ row ∷ []))) 8 0 ≡ k)
+  unfolding lineFault parsedFault rowFault
+  row-kept k late rows row e =
+      let read = chosen-first k (ltb (length rows) (dueAfter m n t rows)) _ 7 (late 7 (omega arith) (omega arith)) e .1 in
+      let small = chosen-first k (rowBelow q row) _ 3 (late 3 (omega arith) (omega arith)) read in
+      let op = chosen-first k (opIn (row .op) (opsDue m (phaseAfter m n t rows))) _ 5 (late 5 (omega arith) (omega arith)) (small .1) in
+      let form = chosen-first k (formed m row) _ 6 (late 6 (omega arith) (omega arith)) (op .1) in
+      (row-below q row (formed-single m row (form .0)) (small .0), (op .0, form .0), form .1)
+
+  -- what reads as no row meets one of them
+  unread-met : (k : ℕ) → Late k → (rows : List Row) (f : ℕ) → lineFault q m n t rows (Fault f) ≡ k → ⊥
+  unfolding lineFault parsedFault
+  unread-met k late rows f e =
+      let read = chosen-first k (ltb (length rows) (dueAfter m n t rows)) (unreadFault f) 7 (late 7 (omega arith) (omega arith)) e .1 in
+      late 3 (omega arith) (omega arith) (chosen-first k (eqb f 3) 3 2 (late 2 (omega arith) (omega arith)) read .1)
+
   -- a line of a phase has no fault exactly when its row is one of the phase, its numbers are below q, and 8 is not met
   row-passes : (d : ℕ) (p : Phase) (rows : List Row) (row : Row) → At d p rows → length rows < till d p → lineFault q m n t rows (Sound row) ≡ 0
       → DueRow m p row × Calm (rows ++ row ∷ [])
-  unfolding lineFault parsedFault rowFault
   row-passes d p rows row a h e =
-      let read = chosen-zero (ltb (length rows) (dueAfter m n t rows)) _ 7 (omega arith) e .1 in
-      let due = chosen-zero (rowBelow q row) _ 3 (omega arith) read .1 in
-      let op = chosen-zero (opIn (row .op) (opsDue m (phaseAfter m n t rows))) _ 5 (omega arith) due in
-      let form = chosen-zero (formed m row) _ 6 (omega arith) (op .1) in
-      ((rw (at-phase d p rows a h) at (op .0), form .0), sym (calm-length rows row) ∙ fails-test _ (form .1))
+      let kept = row-kept 0 none-late rows row e in
+      (subst (λ (ph : Phase). DueRow m ph row) (at-phase d p rows a h) (kept .1), sym (calm-length rows row) ∙ fails-test _ (kept .2))
 
   -- and the other way round
   passing-row : (d : ℕ) (p : Phase) (rows : List Row) (row : Row) → At d p rows → length rows < till d p → RowBelow q row → DueRow m p row
@@ -596,12 +643,64 @@ module _ (q : ℕ) (m : Memory) (n t : ℕ) where
       ∙ (passed-over 0 Operating (p .inits) (p .ops) (p .ends ++ p .ranges) (omega (arith, p .size)) (omega (arith, p .size, p .count)) (operates .0) (p .operating) calm
       ∙ closing-no-fault (p .inits ++ p .ops) (p .ends) (p .ranges) (omega (arith, length-append (p .inits) (p .ops), p .size, p .count)) calm (p .depth ∙ sym (ends-by-ops (p .inits) (p .ops) (p .starting))) (p .ages) (operates .1) (p .ending) (p .ranging)))
 
+  -- The rows up to the one that meets 8, from the rows before them: all of them but that one pass.
+  -- What follows it may be anything.
+  pub record Sinking (rows ys : List Row) : Type 0 where
+    pub part : List Row
+    pub rest : List Row
+    pub split : ys ≡ part ++ rest
+    pub last : length (rows ++ part) ≡ n + t
+    pub operating : n ≤ length rows → DueRows m Operating part
+    pub sinks : sunk q m (rows ++ part) ≡ true
+
+  -- a row that meets 8
+  sinking-here : (rows : List Row) (row : Row) (ys : List Row) → lineFault q m n t rows (Sound row) ≡ 8 → Sinking rows (row ∷ ys)
+  sinking-here rows row ys e =
+      let kept = row-kept 8 eight-late rows row e in
+      let test = chosen-first 8 (leb 1 t && (eqb (length rows + 1) (n + t) && sunk q m (rows ++ row ∷ []))) 8 0 (omega arith) (kept .2) .0 in
+      let place = both-pass (eqb (length rows + 1) (n + t)) (sunk q m (rows ++ row ∷ [])) (both-pass (leb 1 t) _ test .1) in
+      let last : length rows + 1 ≡ n + t = eqb-true (length rows + 1) (n + t) (place .0) in
+      record {
+        part = row ∷ [];
+        rest = ys;
+        split = refl;
+        last = length-append rows (row ∷ []) ∙ last;
+        operating = λ late. (subst (λ (p : Phase). DueRow m p row) (at-phase 0 Operating rows late (omega arith)) (kept .1), tt);
+        sinks = place .1;
+      }
+
+  -- and one that passes before it
+  sinking-more : (rows : List Row) (row : Row) (ys : List Row) → lineFault q m n t rows (Sound row) ≡ 0 → Sinking (rows ++ row ∷ []) ys
+      → Sinking rows (row ∷ ys)
+  sinking-more rows row ys e s =
+      let same = append-assoc rows (row ∷ []) (s .part) in
+      let more = length-append rows (row ∷ []) in
+      let before : length rows < n + t = omega (arith, s .last, length-append (rows ++ row ∷ []) (s .part), more) in
+      record {
+        part = row ∷ s .part;
+        rest = s .rest;
+        split = ap {B = List Row} (λ l. row ∷ l) (s .split);
+        last = ap length (sym same) ∙ s .last;
+        operating = λ late. (row-passes 0 Operating rows row late before e .0, s .operating (omega (arith, more)));
+        sinks = subst (λ (z : List Row). sunk q m z ≡ true) same (s .sinks);
+      }
+
+  -- rows whose first fault is 8 have such a part
+  pub eight-sinking : (rows : List Row) (xs : List Parsed) → firstFault q m n t rows xs .number ≡ 8 → Sinking rows (rowsOf xs)
+  unfolding rowsOf parsedRow firstFault
+  eight-sinking rows [] e = absurd (end-not-eight (ltb (length rows) (dueAfter m n t rows)) (length rows + 4) e)
+  eight-sinking rows (Sound row ∷ xs) e = elim (first-step 8 rows (Sound row) xs e) [
+    | inl passed ↦ sinking-more rows row (rowsOf xs) (passed .0) (eight-sinking (rows ++ row ∷ []) xs (passed .1))
+    | inr met ↦ sinking-here rows row (rowsOf xs) (met .1)
+  ]
+  eight-sinking rows (Fault f ∷ xs) e = elim (first-step 8 rows (Fault f) xs e) [
+    | inl passed ↦ absurd (unread-met 0 none-late rows f (passed .0))
+    | inr met ↦ absurd (unread-met 8 eight-late rows f (met .1))
+  ]
+
 -- a line that reads as no row is a fault
 fault-met : (q : ℕ) (m : Memory) (n t : ℕ) (before : List Row) (f : ℕ) (xs : List Parsed) → firstFault q m n t before (Fault f ∷ xs) .number ≡ 0 → ⊥
-unfolding lineFault parsedFault
-fault-met q m n t before f xs e =
-    let here = no-fault-step q m n t before (Fault f) xs e .0 in
-    fault-not-zero f (chosen-zero (ltb (length before) (dueAfter m n t before)) (unreadFault f) 7 (omega arith) here .1)
+fault-met q m n t before f xs e = unread-met q m n t 0 none-late before f (no-fault-step q m n t before (Fault f) xs e .0)
 
 -- A list of parsed rows that meets no fault is rows, one for each entry.
 pub no-fault-sound : (q : ℕ) (m : Memory) (n t : ℕ) (before : List Row) (xs : List Parsed) → firstFault q m n t before xs .number ≡ 0
@@ -623,10 +722,5 @@ unfolding rowsOf parsedRow
 no-fault-below q m n t before [] e = tt
 no-fault-below q m n t before (Sound row ∷ xs) e =
     let step = no-fault-step q m n t before (Sound row) xs e in
-    let here : (ltb (length before) (dueAfter m n t before) ≡ true) × (cond (rowBelow q row) (rowFault q m n t before row) 3 ≡ 0) =
-    unfold lineFault parsedFault in
-    chosen-zero (ltb (length before) (dueAfter m n t before)) (cond (rowBelow q row) (rowFault q m n t before row) 3) 7 (omega arith) (step .0)
-    in
-    let small = chosen-zero (rowBelow q row) (rowFault q m n t before row) 3 (omega arith) (here .1) in
-    (row-below q row (small .0), no-fault-below q m n t (before ++ row ∷ []) xs (step .1))
+    (row-kept q m n t 0 none-late before row (step .0) .0, no-fault-below q m n t (before ++ row ∷ []) xs (step .1))
 no-fault-below q m n t before (Fault f ∷ xs) e = absurd (fault-met q m n t before f xs e)

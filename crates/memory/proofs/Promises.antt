@@ -1,6 +1,7 @@
 -- Every statement of this crate is proved.
 -- Assumes nothing.
 use Rattle.memory.specs.Promises.{Promises}
+use Rattle.memory.proofs.Content.{same-content, content-same}
 use Rattle.memory.proofs.Fold.{fold-is-file, run-is-steps, lent-is-steps, run-is-file, fixed-state, ended-state, row-answered, refusal-stays, accepts-exactly-when}
 use Rattle.memory.proofs.WholeFile.{file-accepted}
 use Rattle.memory.proofs.Answered.{malformed-answered, well-formed-answered}
@@ -13,6 +14,8 @@ use Rattle.memory.proofs.Cases.{cases-hold, counted-challenge, ram-prod
 
 pub promises : Promises
 promises = record {
+  sameContent = same-content;
+  contentSame = content-same;
   fold = fold-is-file;
   runIsSteps = run-is-steps;
   lentIsSteps = lent-is-steps;

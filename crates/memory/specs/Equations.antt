@@ -15,24 +15,25 @@ use Rattle.memory.specs.declared.Op.the-variants.{Push, Pop, Enqueue, De
 use Rattle.memory.specs.declared.Row.{Row}
 use Rattle.memory.specs.declared.Challenge.{Challenge}
 use Rattle.memory.specs.Names.{isOp}
+use Rattle.memory.specs.Content.{Content, contentOf, numberOf, weighed}
 use Rattle.memory.specs.Rows.{raiseBy, lowerBy, raised, lowered, endsDue, initRows, operationRows}
 
--- "A triple (x, y, z)"
+-- "A triple (x, y, z)": of a cell's record y is its content
 pub record Triple : Type 0 where
   pub x : ℕ
-  pub y : ℕ
+  pub y : Content
   pub z : ℕ
 
-unfoldable pub triple : ℕ → ℕ → ℕ → Triple
+unfoldable pub triple : ℕ → Content → ℕ → Triple
 triple x y z = record { x = x; y = y; z = z }
 
 -- A pair (x, y) is the triple (x, y, 0): c · 0 adds nothing to its factor r − (a·x + b·y)
 unfoldable pub pair : ℕ → ℕ → Triple
-pair x y = triple x y 0
+pair x y = triple x (contentOf y) 0
 
 -- "A triple (x, y, z) gives the factor r − (a·x + b·y + c·z)"
 unfoldable pub factor : ℕ → Challenge → Triple → ℕ
-factor q ch t = minus q (ch .r) (ch .a * t .x + ch .b * t .y + ch .c * t .z)
+factor q ch t = minus q (ch .r) (ch .a * t .x + weighed (ch .b) (t .y) + ch .c * t .z)
 
 -- "All products start at 1."
 unfoldable pub product : ℕ → Challenge → List Triple → ℕ
@@ -52,8 +53,8 @@ pub record Lists : Type 0 where
   pub supplied : List Triple
   pub looked : List Triple
   -- the elements that the queue's two hashes take
-  pub enqueued : List ℕ
-  pub dequeued : List ℕ
+  pub enqueued : List Content
+  pub dequeued : List Content
 
 -- rom and ram: "Init writes (address, value, 0), addresses counting from 0."
 abbrev pub initWrite : ℕ → Row → Triple
@@ -80,13 +81,13 @@ romEnds i (row ∷ rows) = romEnd i row ∷ romEnds (suc i) rows
 
 -- set: "The same with pairs (value, version), end rows in init order."
 unfoldable pub setInit : Row → Triple
-setInit row = pair (row .value) 0
+setInit row = pair (numberOf (row .value)) 0
 
 unfoldable pub memberRead : Row → Triple
-memberRead row = pair (row .value) (row .version)
+memberRead row = pair (numberOf (row .value)) (row .version)
 
 unfoldable pub memberWrite : ℕ → Row → Triple
-memberWrite q row = pair (row .value) (plus q (row .version) 1)
+memberWrite q row = pair (numberOf (row .value)) (plus q (row .version) 1)
 
 -- A lookup in the range: the age that is looked up, and the version
 pub record Lookup : Type 0 where
@@ -120,7 +121,7 @@ unfoldable pub accessRead : Row → Triple
 accessRead row = triple (row .addr) (row .old) (row .time)
 
 -- ram: "new is value under guard 1, old under guard 0"
-unfoldable pub newOf : Row → ℕ
+unfoldable pub newOf : Row → Content
 newOf row = cond (eqb (row .guard) 1) (row .value) (row .old)
 
 -- ram: "writes (addr, new, clock), and the clock rises by 1"
@@ -178,25 +179,25 @@ popLookups q up [] = []
 popLookups q up (row ∷ rows) = popLookup q up row ++ popLookups q (up + raiseBy (row .op) (row .guard)) rows
 
 -- queue: "An executed enqueue or dequeue makes its hash h·r + element.": the elements of one row, and of a list of rows
-abbrev pub enqueueElements : Row → List ℕ
+abbrev pub enqueueElements : Row → List Content
 enqueueElements row = cond (isOp (row .op) Enqueue && eqb (row .guard) 1) (row .value ∷ []) []
 
-unfoldable pub enqueues : List Row → List ℕ
+unfoldable pub enqueues : List Row → List Content
 enqueues [] = []
 enqueues (row ∷ rows) = enqueueElements row ++ enqueues rows
 
-abbrev pub dequeueElements : Row → List ℕ
+abbrev pub dequeueElements : Row → List Content
 dequeueElements row = cond (isOp (row .op) Dequeue && eqb (row .guard) 1) (row .old ∷ []) []
 
-unfoldable pub dequeues : List Row → List ℕ
+unfoldable pub dequeues : List Row → List Content
 dequeues [] = []
 dequeues (row ∷ rows) = dequeueElements row ++ dequeues rows
 
 -- queue: "End continues the dequeue hash."
-abbrev pub endElement : Row → ℕ
+abbrev pub endElement : Row → Content
 endElement row = row .old
 
-unfoldable pub endOlds : List Row → List ℕ
+unfoldable pub endOlds : List Row → List Content
 endOlds rows = map endElement rows
 
 -- the lists of a memory with no range and no hash

@@ -15,13 +15,14 @@ use Rattle.memory.specs.declared.Challenge.{Challenge}
 use Rattle.memory.specs.declared.Report.{Report}
 use Rattle.memory.specs.Bytes.{Line, allBelow, same, Fields, named, noFields, fieldsOf, linesOf}
 use Rattle.memory.specs.Names.{valueNames, rowNames, memoryNamed}
+use Rattle.memory.specs.Content.{noContent}
 use Rattle.memory.specs.Rows.{allowed, dueAfter, parseRow, lineFault}
 use Rattle.memory.specs.Equations.{fileLists, rangeBalances, memoryBalances}
 use Rattle.memory.specs.Gates.{inputsOf, multsOf}
 
 -- the row that a line reads as; where it reads as none, a row of no op
 unfoldable pub noRow : Row
-noRow = record { op = Other; guard = 0; addr = 0; value = 0; old = 0; time = 0; version = 0 }
+noRow = record { op = Other; guard = 0; addr = 0; value = noContent; old = noContent; time = 0; version = 0 }
 
 unfoldable pub parsedRow : Parsed → Row
 parsedRow (Sound row) = row

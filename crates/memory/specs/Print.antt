@@ -10,6 +10,7 @@ use Rattle.memory.specs.declared.Challenge.{Challenge}
 use Rattle.memory.specs.declared.Report.{Report}
 use Rattle.memory.specs.Bytes.{comma, feed, zeroByte}
 use Rattle.memory.specs.Names.{valueNames, memoryName, opName, rowNames, reportNames, refusalNames}
+use Rattle.memory.specs.Content.{numberOf}
 
 -- "Numbers are unsigned decimal": the digits of n before the bytes `rest`, for a number of at most `most` digits
 unfoldable pub digitsOnto : ℕ → ℕ → List ℕ → List ℕ
@@ -31,7 +32,7 @@ numbersText x (y ∷ ys) = numberText x ++ comma ∷ numbersText y ys
 unfoldable pub rowText : Row → List ℕ
 rowText row =
     opName (row .op)
-    ++ comma ∷ numbersText (row .guard) (row .addr ∷ row .value ∷ row .old ∷ row .time ∷ row .version ∷ [])
+    ++ comma ∷ numbersText (row .guard) (row .addr ∷ numberOf (row .value) ∷ numberOf (row .old) ∷ row .time ∷ row .version ∷ [])
 
 unfoldable pub rowsText : List Row → List ℕ
 rowsText [] = []

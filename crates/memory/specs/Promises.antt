@@ -1,9 +1,11 @@
 -- Every statement of this crate, as the fields of one record: a proof of it is a proof of each. (Promises: promises)
 -- Assumes nothing.
-use Rattle.memory.specs.Statements.{FoldIsFile, RunIsSteps, LentIsSteps, RunIsFile, FaultByForm, FixedState, EndedState, RowAnswered, RefusalStays, AcceptsExactlyWhen, FileAccepted, MalformedAnswered, WellFormedAnswered, GatesByFormula, FactorsCounted, ChoicesCounted, HashesCounted, DepthsCounted, MultsCounted, ReportShort, StreamIsFile}
+use Rattle.memory.specs.Statements.{SameContent, ContentSame, FoldIsFile, RunIsSteps, LentIsSteps, RunIsFile, FaultByForm, FixedState, EndedState, RowAnswered, RefusalStays, AcceptsExactlyWhen, FileAccepted, MalformedAnswered, WellFormedAnswered, GatesByFormula, FactorsCounted, ChoicesCounted, HashesCounted, DepthsCounted, MultsCounted, ReportShort, StreamIsFile}
 use Rattle.memory.specs.Cases.{CasesHold, CountedChallenge, RamProducts}
 
 pub record Promises : Type 0 where
+  pub sameContent : SameContent
+  pub contentSame : ContentSame
   pub fold : FoldIsFile
   pub runIsSteps : RunIsSteps
   pub lentIsSteps : LentIsSteps

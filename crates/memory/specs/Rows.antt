@@ -18,6 +18,7 @@ use Rattle.memory.specs.declared.Parsed.{Parsed}
 use Rattle.memory.specs.declared.Parsed.the-variants.{Sound, Fault}
 use Rattle.memory.specs.Bytes.{Line, allBelow, Fields, named, noFields, fieldsOf}
 use Rattle.memory.specs.Names.{opNamed, isOp}
+use Rattle.memory.specs.Content.{Content, contentOf, numberOf}
 
 -- "Size n is 0 to 65,536, and 0 for stack and queue. Count T is 0 to 65,536."
 unfoldable pub limit : ℕ
@@ -132,17 +133,21 @@ used m Other = columns false false false false false false
 unfoldable pub usedOrZero : Bool → ℕ → Bool
 usedOrZero used x = used || eqb x 0
 
+-- the same of a column of contents
+abbrev pub usedOrNone : Bool → Content → Bool
+usedOrNone used y = usedOrZero used (numberOf y)
+
 -- whether a row does not meet 6: "guard above 1, or an unused column not 0"
 unfoldable pub formed : Memory → Row → Bool
 formed m row =
     let u = used m (row .op) in
     (leb (row .guard) 1 && usedOrZero (u .guard) (row .guard))
-    && ((usedOrZero (u .addr) (row .addr) && usedOrZero (u .value) (row .value))
-    && (usedOrZero (u .old) (row .old) && (usedOrZero (u .time) (row .time) && usedOrZero (u .version) (row .version))))
+    && ((usedOrZero (u .addr) (row .addr) && usedOrNone (u .value) (row .value))
+    && (usedOrNone (u .old) (row .old) && (usedOrZero (u .time) (row .time) && usedOrZero (u .version) (row .version))))
 
 -- 3: "a number is p or more", of a row's six numbers
 unfoldable pub rowBelow : ℕ → Row → Bool
-rowBelow q row = allBelow q (row .guard ∷ row .addr ∷ row .value ∷ row .old ∷ row .time ∷ row .version ∷ [])
+rowBelow q row = allBelow q (row .guard ∷ row .addr ∷ numberOf (row .value) ∷ numberOf (row .old) ∷ row .time ∷ row .version ∷ [])
 
 -- the fields of a row line: `op,guard,addr,value,old,time,version`
 abbrev pub rowFields : ℕ
@@ -155,8 +160,8 @@ rowWith o ns =
       op = o;
       guard = getD ns 0 0;
       addr = getD ns 1 0;
-      value = getD ns 2 0;
-      old = getD ns 3 0;
+      value = contentOf (getD ns 2 0);
+      old = contentOf (getD ns 3 0);
       time = getD ns 4 0;
       version = getD ns 5 0;
     }

@@ -17,6 +17,7 @@ use Rattle.memory.specs.declared.State.{State}
 use Rattle.memory.specs.declared.Report.{Report}
 use Rattle.memory.specs.declared.Lent.{Lent}
 use Rattle.field.specs.Moduli.{modulusOf}
+use Rattle.memory.specs.Content.{Content, sameContent}
 use Rattle.memory.specs.Bytes.{Line, linesOf}
 use Rattle.memory.specs.Names.{valueNames, rowNames}
 use Rattle.memory.specs.Rows.{allowed, raised, lowered, rangesDue, formed, rowBelow, lineFault}
@@ -28,6 +29,15 @@ use Rattle.memory.specs.Print.{reportText}
 use Rattle.memory.specs.Pieces.{bytesIn}
 use Rattle.memory.specs.Stream.{lineOf, unread, finishOf}
 use Rattle.memory.specs.Bound.{elements, accepts, malformed}
+
+-- The laws of the equality of contents: contents that pass the test are equal, (Content:
+-- same-content)
+abbrev pub SameContent : Type 0
+SameContent = (x y : Content) → sameContent x y ≡ true → x ≡ y
+
+-- and equal contents pass it. (Content: content-same)
+abbrev pub ContentSame : Type 0
+ContentSame = (x y : Content) → x ≡ y → sameContent x y ≡ true
 
 -- "Rows then come one call at a time, refused ones included, and last the end of file": the value line's fresh state, advanced by any list of parsed rows, also
 -- of such as no line reads as, and then ended, answers what the whole-file definition says: answer, line, inputs, multiplications. (Fold: fold-is-file)

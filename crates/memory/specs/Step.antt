@@ -24,6 +24,7 @@ use Rattle.memory.specs.declared.Lent.{Lent}
 use Rattle.field.specs.Moduli.{modulusOf}
 use Rattle.memory.specs.Bytes.{Line}
 use Rattle.memory.specs.Names.{isOp}
+use Rattle.memory.specs.Content.{Content}
 use Rattle.memory.specs.Rows.{raiseBy, lowerBy, endsDue, opsDue, opIn, formed, depthFactor, rowBelow, parseRow, sunkBy, dueBy, phaseBy, faultBy, unreadFault}
 use Rattle.memory.specs.Equations.{Triple, Lookup, factor, initWrite, lookRead, lookWrite, romEnd, setInit, memberRead, memberWrite, rangeSet, rangeRead, rangeWrite, rangeEnd, accessRead, accessWrite, accessLookup, cellEnd, pushWrite, popRead, popLookup, enqueueElements, dequeueElements, endElement}
 use Rattle.memory.specs.Gates.{rowInputs, rowMults}
@@ -160,10 +161,10 @@ lookedBy q c row =
     map rangeRead (lookupsBy q c row) ++ cond (isOp (row .op) Range) (rangeEnd (rangePlace c + 1) row ∷ []) []
 
 -- the elements that a row adds to the queue's two hashes
-unfoldable pub enqueuedBy : Row → List ℕ
+unfoldable pub enqueuedBy : Row → List Content
 enqueuedBy row = enqueueElements row
 
-unfoldable pub dequeuedBy : Memory → Row → List ℕ
+unfoldable pub dequeuedBy : Memory → Row → List Content
 dequeuedBy Ram row = []
 dequeuedBy Rom row = []
 dequeuedBy Set row = []

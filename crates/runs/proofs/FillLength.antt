@@ -11,6 +11,7 @@ use Rattle.memory.specs.declared.Memory.{Memory}
 use Rattle.memory.specs.declared.Memory.the-variants.{Ram, Rom, Set, Stack, Queue}
 use Rattle.memory.specs.declared.Op.the-variants.{Push, Enqueue}
 use Rattle.memory.specs.declared.Row.{Row}
+use Rattle.memory.specs.Content.{Content, noContent, numberOf}
 use Rattle.memory.specs.Text.{bytes}
 use Rattle.memory.specs.Bytes.{comma, feed}
 use Rattle.memory.specs.Names.{isOp, opName, rowNames, refusalNames}
@@ -49,7 +50,7 @@ numbers-short x (y ∷ ys) = omega (arith, length-append (numberText x) (comma �
 row-short : (row : Row) → length (rowText row) ≤ 134
 unfolding rowText
 row-short row =
-    let rest : List ℕ = row .addr ∷ row .value ∷ row .old ∷ row .time ∷ row .version ∷ [] in
+    let rest : List ℕ = row .addr ∷ numberOf (row .value) ∷ numberOf (row .old) ∷ row .time ∷ row .version ∷ [] in
     omega (arith, length-append (opName (row .op)) (comma ∷ numbersText (row .guard) rest), name-length (row .op), numbers-short (row .guard) rest)
 
 rows-short : (rows : List Row) → length (rowsText rows) ≤ 134 * length rows
@@ -75,36 +76,36 @@ ram-count : (cells : List Cell) (clock : ℕ) (ages : List ℕ) (t : ℕ) (ops :
 unfolding ramFrom ramEnds ramCells
 ram-count cells clock ages t [] =
     length-append (ramEnds cells) (rangeRowsFrom 1 t ages)
-    ∙ omega (arith, length-map cells (λ c. endRow 0 (c .content) (c .time) 0), range-count 1 t ages)
+    ∙ omega (arith, length-map cells (λ c. endRow noContent (c .content) (c .time) 0), range-count 1 t ages)
 ram-count cells clock ages t (i ∷ is) =
     let kept : length (ramCells cells clock i) ≡ length cells = length-set cells (i .addr) _ in
     omega (arith, ram-count (ramCells cells clock i) (suc clock) (ramAge cells clock i ∷ ages) t is, kept)
 
-rom-ends-count : (k : ℕ) (vs keys : List ℕ) → length (romEndsFrom k vs keys) ≡ length vs
+rom-ends-count : (k : ℕ) (vs : List Content) (keys : List ℕ) → length (romEndsFrom k vs keys) ≡ length vs
 unfolding romEndsFrom
 rom-ends-count k [] keys = refl
 rom-ends-count k (v ∷ vs) keys = ap suc (rom-ends-count (suc k) vs keys)
 
-rom-count : (cells keys : List ℕ) (ops : List Input) → length (romFrom cells keys ops) ≡ length ops + length cells
+rom-count : (cells : List Content) (keys : List ℕ) (ops : List Input) → length (romFrom cells keys ops) ≡ length ops + length cells
 unfolding romFrom
 rom-count cells keys [] = omega (arith, rom-ends-count 0 cells keys)
 rom-count cells keys (i ∷ is) = omega (arith, rom-count cells (i .addr ∷ keys) is)
 
-set-ends-count : (earlier vs keys : List ℕ) → length (setEndsFrom earlier vs keys) ≡ length vs
+set-ends-count : (earlier vs : List Content) (keys : List ℕ) → length (setEndsFrom earlier vs keys) ≡ length vs
 unfolding setEndsFrom
 set-ends-count earlier [] keys = refl
 set-ends-count earlier (v ∷ vs) keys = ap suc (set-ends-count (v ∷ earlier) vs keys)
 
-set-count : (elements keys : List ℕ) (ops : List Input) → length (setFrom elements keys ops) ≡ length ops + length elements
+set-count : (elements : List Content) (keys : List ℕ) (ops : List Input) → length (setFrom elements keys ops) ≡ length ops + length elements
 unfolding setFrom
 set-count elements keys [] = omega (arith, set-ends-count [] elements keys)
-set-count elements keys (i ∷ is) = omega (arith, set-count elements (i .value ∷ keys) is)
+set-count elements keys (i ∷ is) = omega (arith, set-count elements (numberOf (i .value) ∷ keys) is)
 
 stack-ends-count : (cells : List Cell) → length (stackEnds cells) ≡ length cells
 unfolding stackEnds
 stack-ends-count [] = refl
 stack-ends-count (c ∷ cells) =
-    length-append (stackEnds cells) (endRow 0 (c .content) (c .time) 0 ∷ []) ∙ omega (arith, stack-ends-count cells)
+    length-append (stackEnds cells) (endRow noContent (c .content) (c .time) 0 ∷ []) ∙ omega (arith, stack-ends-count cells)
 
 -- one more at most
 chosen-within : {A : Type 0} (b : Bool) (x y : List A) (n : ℕ) → length x ≤ n → length y ≤ n → length (cond b x y) ≤ n
@@ -124,18 +125,18 @@ stack-count cells clock ages t (i ∷ is) =
     (omega (arith, stack-count pushed (clock + i .guard) ages t is, more))
     (omega (arith, stack-count popped clock ((clock - popTime cells clock i) ∷ ages) t is, fewer))
 
-queue-count : (content : List ℕ) (ops : List Input) → length (queueFrom content ops) ≤ 2 * length ops + length content
+queue-count : (content : List Content) (ops : List Input) → length (queueFrom content ops) ≤ 2 * length ops + length content
 unfolding queueFrom
-queue-count content [] = omega (arith, length-map content (λ v. endRow 0 v 0 0))
+queue-count content [] = omega (arith, length-map content (λ v. endRow noContent v 0 0))
 queue-count content (i ∷ is) =
-    let put : List ℕ = cond (eqb (i .guard) 1) (content ++ i .value ∷ []) content in
-    let taken : List ℕ = cond (eqb (i .guard) 1) (drop 1 content) content in
+    let put : List Content = cond (eqb (i .guard) 1) (content ++ i .value ∷ []) content in
+    let taken : List Content = cond (eqb (i .guard) 1) (drop 1 content) content in
     let more = chosen-within (eqb (i .guard) 1) (content ++ i .value ∷ []) content (suc (length content)) (omega (arith, length-append content (i .value ∷ []))) (omega arith) in
     let fewer = chosen-within (eqb (i .guard) 1) (drop 1 content) content (length content) (omega (arith, length-drop 1 content)) (omega arith) in
     chosen-within (isOp (i .op) Enqueue) _ _ _ (omega (arith, queue-count put is, more)) (omega (arith, queue-count taken is, fewer))
 
 -- "It wants room for 2n + 3T output rows"
-operations-count : (m : Memory) (t : ℕ) (inits : List ℕ) (ops : List Input) → length (operationsFilled m t inits ops) ≤ length inits + 2 * length ops + t
+operations-count : (m : Memory) (t : ℕ) (inits : List Content) (ops : List Input) → length (operationsFilled m t inits ops) ≤ length inits + 2 * length ops + t
 unfolding operationsFilled
 operations-count Ram t inits ops = omega (arith, ram-count (map (λ v. cell v 0) inits) 1 [] t ops, length-map inits (λ v. cell v 0))
 operations-count Rom t inits ops = omega (arith, rom-count inits [] ops)

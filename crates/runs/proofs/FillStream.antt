@@ -12,6 +12,7 @@ use lib.ListN.{length, take, drop, length-append}
 use lib.Seq.{length-sets, sets-eq, take-at}
 use borrow.Author.Tests.{leb-true, ltb-true, ltb-false}
 use Rattle.memory.specs.declared.Memory.{Memory}
+use Rattle.memory.specs.Content.{numberOf}
 use Rattle.runs.specs.declared.Intake.{Intake}
 use Rattle.memory.specs.Text.{bytes}
 use Rattle.memory.specs.Bytes.{Line, longest, linesOf}
@@ -24,11 +25,12 @@ use Rattle.runs.specs.Filler.{inputsIn, inputNumbers}
 use Rattle.memory.specs.Print.{refusalText}
 use Rattle.runs.specs.FillFile.{fillLimit, fillAllowed, Job, job, noJob, jobFields, jobOf, jobRead, parseJob, InputLine, sound, faulty, inputFields, inputRead, parseInput, inputLineFault, inputsFault, inputOfLine, inputsOfLines, runText, inputsText, jobText, jobLinesText, fillLinesText, fillText}
 use Rattle.memory.specs.Pieces.{cut, bytesIn, endIn}
+use Rattle.memory.proofs.Content.{Single}
 use Rattle.runs.specs.FillStream.{Gathered, gathered, refuseOn, moveTo, untaken, namesTaken, jobTaken, rowsDue, refuseRow, passRow, storedAt, inputTaken, rowTaken, openLine, lineTaken, endFault, endTaken, dueWords, gatheredText, unfilled, fillEnd}
 use Rattle.runs.specs.Statements.{FillStreamIsText}
 use Rattle.memory.proofs.ReadFields.{decided, read-fields, long-fields}
 use Rattle.memory.proofs.ReadRows.{both-pass}
-use Rattle.runs.proofs.FillerRows.{inputs-coded, input-numbers-length}
+use Rattle.runs.proofs.FillerRows.{SingleInputs, single-append, inputs-coded, input-numbers-length}
 use Rattle.memory.proofs.Pieces.{lineWith, cut-reads, cut-names, linesIn, pieces-are-lines}
 
 -- A line is read from what is kept of it
@@ -74,18 +76,18 @@ input-numbers-append : (xs ys : List Input) → inputNumbers (xs ++ ys) ≡ inpu
 unfolding inputNumbers
 input-numbers-append [] ys = refl
 input-numbers-append (x ∷ xs) ys =
-    ap {B = List ℕ} (λ ns. opCode (x .op) ∷ x .guard ∷ x .addr ∷ x .value ∷ ns) (input-numbers-append xs ys)
+    ap {B = List ℕ} (λ ns. opCode (x .op) ∷ x .guard ∷ x .addr ∷ numberOf (x .value) ∷ ns) (input-numbers-append xs ys)
 
 stored-length : (ws : List ℕ) (k : ℕ) (x : Input) → length (storedAt ws k x) ≡ length ws
 unfolding storedAt
-stored-length ws k x = length-sets ws (4 * k) (opCode (x .op) ∷ x .guard ∷ x .addr ∷ x .value ∷ [])
+stored-length ws k x = length-sets ws (4 * k) (opCode (x .op) ∷ x .guard ∷ x .addr ∷ numberOf (x .value) ∷ [])
 
 stored-rows : (ws : List ℕ) (rows : List Input) (x : Input) → take (4 * length rows) ws ≡ inputNumbers rows → 4 * length rows + 4 ≤ length ws
     → take (4 * length (rows ++ x ∷ [])) (storedAt ws (length rows) x) ≡ inputNumbers (rows ++ x ∷ [])
 unfolding storedAt inputNumbers
 stored-rows ws rows x here fits =
     let k = length rows in
-    let new : List ℕ = opCode (x .op) ∷ x .guard ∷ x .addr ∷ x .value ∷ [] in
+    let new : List ℕ = opCode (x .op) ∷ x .guard ∷ x .addr ∷ numberOf (x .value) ∷ [] in
     let behind = drop (4 * k + 4) ws in
     let long : length (inputNumbers rows ++ new) ≡ 4 * length (rows ++ x ∷ []) =
     omega (arith, length-append rows (x ∷ []), length-append (inputNumbers rows) new, input-numbers-length rows) in
@@ -96,14 +98,15 @@ stored-rows ws rows x here fits =
 faultOr : ℕ → Memory → ℕ → ℕ → Refusal → List Input → List ℕ
 faultOr q m n t f rows = cond (eqb (f .number) 0) (runText q m n t rows) (refusalText (f .number) (f .line))
 
--- what reads as no row has a fault that is not 0
-abbrev pub Faulted : InputLine → Type 0
-Faulted (sound x) = Unit {0}
-Faulted (faulty f) = eqb f 0 ≡ false
+-- what reads as a row has a value that is nothing but its number; what reads as none has a fault
+-- that is not 0
+abbrev pub SingleOrFault : InputLine → Type 0
+SingleOrFault (sound x) = Single (x .value)
+SingleOrFault (faulty f) = eqb f 0 ≡ false
 
-pub input-faulted : (q : ℕ) (line : Line) → Faulted (parseInput q line)
+pub input-single-or-fault : (q : ℕ) (line : Line) → SingleOrFault (parseInput q line)
 unfolding parseInput inputRead
-input-faulted q line = read-fields (λ x. Faulted (inputRead x)) q inputFields refl refl (λ name ns many below. tt) line
+input-single-or-fault q line = read-fields (λ x. SingleOrFault (inputRead x)) q inputFields refl refl (λ name ns many below. refl) line
 
 -- The intake between two rows
 rowsIntake : Memory → ℕ → ℕ → ℕ → Intake
@@ -113,6 +116,7 @@ module _ (q : ℕ) (m : Memory) (n t : ℕ) (few : n + t ≤ 256) where
   -- the rows so far are in the words, and there are words for all that are due
   record Stored (ws : List ℕ) (rows : List Input) : Type 0 where
     here : take (4 * length rows) ws ≡ inputNumbers rows
+    single : SingleInputs rows
     due : length rows ≤ n + t
     room : 4 * (n + t) ≤ length ws
 
@@ -127,10 +131,11 @@ module _ (q : ℕ) (m : Memory) (n t : ℕ) (few : n + t ≤ 256) where
       let more : raise (length rows) 1 ≡ length (rows ++ x ∷ []) = raise-small (length rows) 1 (omega arith) ∙ sym (length-append rows (x ∷ [])) in
       ap (λ (k : ℕ). gathered (rowsIntake m n t k) (storedAt ws (length rows) x)) more
 
-  stored-more : (ws : List ℕ) (rows : List Input) (x : Input) → Stored ws rows → length rows < n + t → Stored (storedAt ws (length rows) x) (rows ++ x ∷ [])
-  stored-more ws rows x s h =
+  stored-more : (ws : List ℕ) (rows : List Input) (x : Input) → Single (x .value) → Stored ws rows → length rows < n + t → Stored (storedAt ws (length rows) x) (rows ++ x ∷ [])
+  stored-more ws rows x alone s h =
       record {
         here = stored-rows ws rows x (s .here) (omega (arith, s .room));
+        single = single-append rows (x ∷ []) (s .single) (alone, tt);
         due = omega (arith, length-append rows (x ∷ []));
         room = rw (stored-length ws (length rows) x) (s .room);
       }
@@ -147,7 +152,7 @@ module _ (q : ℕ) (m : Memory) (n t : ℕ) (few : n + t ≤ 256) where
   rows-end : (ws : List ℕ) (rows : List Input) → Stored ws rows → ltb (length rows) (n + t) ≡ false → inputsIn (take (4 * (n + t)) ws) ≡ rows
   rows-end ws rows s e =
       let all : n + t ≡ length rows = omega (arith, s .due, ltb-false (length rows) (n + t) e) in
-      rw (all, s .here) (inputs-coded rows)
+      rw (all, s .here) (inputs-coded rows (s .single))
 
   -- the lines end
   no-line : (ws : List ℕ) (rows : List Input) → Stored ws rows → gatheredText q (between ws rows) ≡ faultOr q m n t (inputsFault q m n t (length rows) []) rows
@@ -169,16 +174,16 @@ module _ (q : ℕ) (m : Memory) (n t : ℕ) (few : n + t ≤ 256) where
       (rest : (vs : List ℕ) (is : List Input) → Stored vs is
       → gatheredText q (linesIn (lineTaken q) (between vs is) lines) ≡ faultOr q m n t (inputsFault q m n t (length is) xs) (is ++ inputsOfLines xs))
     where
-      row-stored : (x : Input) → length rows < n + t
+      row-stored : (x : Input) → Single (x .value) → length rows < n + t
           → gatheredText q (linesIn (lineTaken q) (gathered (passRow (rowsIntake m n t (length rows))) (storedAt ws (length rows) x)) lines)
           ≡ faultOr q m n t (inputsFault q m n t (suc (length rows)) xs) (rows ++ (x ∷ [] ++ inputsOfLines xs))
-      row-stored x h =
+      row-stored x alone h =
           let more : length (rows ++ x ∷ []) ≡ suc (length rows) = length-append rows (x ∷ []) ∙ add-one (length rows) in
           ap (λ (g : Gathered). gatheredText q (linesIn (lineTaken q) g lines)) (row-passes ws rows x h)
-          ∙ rest (storedAt ws (length rows) x) (rows ++ x ∷ []) (stored-more ws rows x s h)
+          ∙ rest (storedAt ws (length rows) x) (rows ++ x ∷ []) (stored-more ws rows x alone s h)
           ∙ rw (more, append-assoc rows (x ∷ []) (inputsOfLines xs)) refl
 
-      row-due : (x : InputLine) → Faulted x → length rows < n + t
+      row-due : (x : InputLine) → SingleOrFault x → length rows < n + t
           → gatheredText q (linesIn (lineTaken q) (inputTaken q (between ws rows) x) lines)
           ≡ faultOr q m n t
           (cond (eqb (inputLineFault q m n (length rows) x) 0) (inputsFault q m n t (suc (length rows)) xs) (refusal (inputLineFault q m n (length rows) x) (length rows + 4)))
@@ -196,16 +201,16 @@ module _ (q : ℕ) (m : Memory) (n t : ℕ) (few : n + t ≤ 256) where
               (cond b (gathered (passRow (rowsIntake m n t (length rows))) (storedAt ws (length rows) x)) (gathered (refuseRow (rowsIntake m n t (length rows)) f) ws))
               lines)
               ≡ faultOr q m n t (cond b (inputsFault q m n t (suc (length rows)) xs) (refusal f (length rows + 4))) (rows ++ (x ∷ [] ++ inputsOfLines xs))
-          go true e = row-stored x h
+          go true e = row-stored x r h
           go false e = rw e (row-refused ws rows f lines (s .due) e)
 
       row-next : (line : Line)
           → gatheredText q (linesIn (lineTaken q) (lineTaken q (between ws rows) line) lines)
           ≡ faultOr q m n t (inputsFault q m n t (length rows) (parseInput q line ∷ xs)) (rows ++ inputsOfLines (parseInput q line ∷ xs))
       unfolding lineTaken openLine rowTaken rowsDue between gathered rowsIntake inputsFault inputsOfLines
-      row-next line = go (ltb (length rows) (n + t)) refl (parseInput q line) (input-faulted q line)
+      row-next line = go (ltb (length rows) (n + t)) refl (parseInput q line) (input-single-or-fault q line)
         where
-          go : (b : Bool) → ltb (length rows) (n + t) ≡ b → (x : InputLine) → Faulted x
+          go : (b : Bool) → ltb (length rows) (n + t) ≡ b → (x : InputLine) → SingleOrFault x
               → gatheredText q
               (linesIn (lineTaken q) (cond b (inputTaken q (between ws rows) x) (gathered (refuseRow (rowsIntake m n t (length rows)) 7) ws)) lines)
               ≡ faultOr q m n t
@@ -227,7 +232,7 @@ module _ (q : ℕ) (m : Memory) (n t : ℕ) (few : n + t ≤ 256) where
   inputs-text : (ws : List ℕ) (lines : List Line) → 4 * (n + t) ≤ length ws
       → gatheredText q (linesIn (lineTaken q) (gathered (rowsIntake m n t 0) ws) lines) ≡ inputsText q m n t (map (parseInput q) lines)
   unfolding between inputsText faultOr inputNumbers
-  inputs-text ws lines room = rows-text ws [] lines (record { here = refl; due = omega arith; room = room })
+  inputs-text ws lines room = rows-text ws [] lines (record { here = refl; single = tt; due = omega arith; room = room })
 
 -- The value line: its memory, size and count are allowed, or its fault is not 0
 abbrev Tested : Job → Type 0

@@ -11,6 +11,7 @@ use borrow.Author.Tests.{ltb-true}
 use Rattle.memory.specs.declared.Op.{Op}
 use Rattle.memory.specs.declared.Op.the-variants.{Init, Access, Look, Member, Push, Pop, Enqueue, Dequeue, End, Range, Other}
 use Rattle.memory.specs.declared.Row.{Row}
+use Rattle.memory.specs.Content.{numberOf}
 use Rattle.memory.specs.Text.{bytes}
 use Rattle.memory.specs.Bytes.{comma, feed, allBelow}
 use Rattle.memory.specs.Names.{opName}
@@ -50,12 +51,12 @@ name-length Other = omega arith
 
 -- the columns of a row that hold numbers
 unfoldable pub columnsOf : Row → List ℕ
-columnsOf row = row .guard ∷ row .addr ∷ row .value ∷ row .old ∷ row .time ∷ row .version ∷ []
+columnsOf row = row .guard ∷ row .addr ∷ numberOf (row .value) ∷ numberOf (row .old) ∷ row .time ∷ row .version ∷ []
 
 -- a row's line with its line feed
 pub row-length : (row : Row) → allBelow tenDigits (columnsOf row) ≡ true → length (rowText row) ≤ 74
 unfolding rowText columnsOf
 row-length row h =
-    let rest : List ℕ = row .addr ∷ row .value ∷ row .old ∷ row .time ∷ row .version ∷ [] in
+    let rest : List ℕ = row .addr ∷ numberOf (row .value) ∷ numberOf (row .old) ∷ row .time ∷ row .version ∷ [] in
     omega
     (arith, length-append (opName (row .op)) (comma ∷ numbersText (row .guard) rest), name-length (row .op), numbers-length (row .guard) rest h)

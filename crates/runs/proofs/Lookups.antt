@@ -16,7 +16,9 @@ use Rattle.algebra.specs.Sum.{bit}
 use Rattle.algebra.proofs.Multiset.{total-append}
 use Rattle.memory.specs.declared.Memory.the-variants.{Rom, Set}
 use Rattle.memory.specs.declared.Row.{Row}
+use Rattle.memory.specs.Content.{Content, noContent, sameContent, numberOf}
 use Rattle.memory.specs.Equations.{Triple, triple, pair, Lookup, initWrites, lookRead, lookWrite, setInit, memberRead, memberWrite, rangeSetup, rangeRead, rangeWrite}
+use Rattle.memory.proofs.Content.{same-content, content-same}
 use Rattle.runs.specs.Plain.{among, fits, after, allFit, operationOf, look}
 use Rattle.runs.proofs.Ages.{InRange}
 
@@ -134,27 +136,27 @@ module _ {K R : Type 0} (test : K → K → Bool) (key : R → K) where
       pub lookups-known : ((k : K) → test k k ≡ true) → (initial : List R) (ls : List L) (ends : List R) → length ls < q → EquallyOften (initial ++ map write ls) (map read ls ++ ends) → Known initial ls
       lookups-known self initial ls ends few often = known-of-unmarked self initial ls (foreign-unmarked initial ls ends few often)
 
--- rom: the key of a record is its address and value
-romKey : Triple → ℕ × ℕ
+-- rom: the key of a record is its address and content
+romKey : Triple → ℕ × Content
 romKey t = (t .x, t .y)
 
 -- the test of two such keys, which a key passes against itself
-sameCell : ℕ × ℕ → ℕ × ℕ → Bool
-sameCell c d = eqb (c .0) (d .0) && eqb (c .1) (d .1)
+sameCell : ℕ × Content → ℕ × Content → Bool
+sameCell c d = eqb (c .0) (d .0) && sameContent (c .1) (d .1)
 
-sameCell-self : (c : ℕ × ℕ) → sameCell c c ≡ true
+sameCell-self : (c : ℕ × Content) → sameCell c c ≡ true
 unfolding sameCell
-sameCell-self c = ap₂ _&&_ (eq-eqb (c .0) (c .0) refl) (eq-eqb (c .1) (c .1) refl)
+sameCell-self c = ap₂ _&&_ (eq-eqb (c .0) (c .0) refl) (content-same (c .1) (c .1) refl)
 
 -- addr is the address of a cell with the content old, the addresses counting from i
-record Held (i addr old : ℕ) (content : List ℕ) : Type 0 where
+record Held (i addr : ℕ) (old : Content) (content : List Content) : Type 0 where
   place : ℕ
   counted : addr ≡ i + place
   inside : place < length content
-  found : old ≡ getD content place 0
+  found : old ≡ getD content place noContent
 
 -- the init rows write such records alone
-rom-held : (i addr old : ℕ) (inits : List Row) → contains sameCell romKey (addr, old) (initWrites i inits) ≡ true → Held i addr old (map (λ row. row .value) inits)
+rom-held : (i addr : ℕ) (old : Content) (inits : List Row) → contains sameCell romKey (addr, old) (initWrites i inits) ≡ true → Held i addr old (map (λ row. row .value) inits)
 unfolding contains initWrites sameCell romKey triple
 rom-held i addr old [] e = absurd (false≢true e)
 rom-held i addr old (row ∷ inits) e = go (sameCell (addr, old) (i, row .value)) refl e (rom-held (suc i) addr old inits)
@@ -165,18 +167,18 @@ rom-held i addr old (row ∷ inits) e = go (sameCell (addr, old) (i, row .value)
         → (contains sameCell romKey (addr, old) (initWrites (suc i) inits) ≡ true → Held (suc i) addr old (map (λ row. row .value) inits))
         → Held i addr old (map (λ row. row .value) (row ∷ inits))
     go true t e rest =
-        let both = both-true (eqb addr i) (eqb old (row .value)) t in
-        record { place = 0; counted = omega (arith, eqb-true addr i (both .0)); inside = omega arith; found = eqb-true old (row .value) (both .1) }
+        let both = both-true (eqb addr i) (sameContent old (row .value)) t in
+        record { place = 0; counted = omega (arith, eqb-true addr i (both .0)); inside = omega arith; found = same-content old (row .value) (both .1) }
     go false t e rest =
         let held = rest e in
         record { place = suc (held .place); counted = omega (arith, held .counted); inside = omega (arith, held .inside); found = held .found }
 
 -- a look of such a cell fits
-held-fits : (addr old : ℕ) (content : List ℕ) → Held 0 addr old content → fits content (look addr old) ≡ true
+held-fits : (addr : ℕ) (old : Content) (content : List Content) → Held 0 addr old content → fits content (look addr old) ≡ true
 unfolding fits
 held-fits addr old content h =
     let at : addr ≡ h .place = omega (arith, h .counted) in
-    ap₂ _&&_ (lt-ltb addr (length content) (omega (arith, at, h .inside))) (eq-eqb old (getD content addr 0) (h .found ∙ ap (λ (k : ℕ). getD content k 0) (sym at)))
+    ap₂ _&&_ (lt-ltb addr (length content) (omega (arith, at, h .inside))) (content-same old (getD content addr noContent) (h .found ∙ ap (λ (k : ℕ). getD content k noContent) (sym at)))
 
 -- rom: looks with known keys fit
 known-looks-fit : (inits ops : List Row) → Known sameCell romKey lookRead (initWrites 0 inits) ops → allFit (map (λ row. row .value) inits) (map (operationOf Rom) ops) ≡ true
@@ -204,20 +206,20 @@ eqb-self k = eq-eqb k k refl
 set-among : (value : ℕ) (inits : List Row) → contains eqb firstKey value (map setInit inits) ≡ among value (map (λ row. row .value) inits)
 unfolding contains among firstKey setInit pair triple
 set-among value [] = refl
-set-among value (row ∷ inits) = ap (λ (b : Bool). eqb value (row .value) || b) (set-among value inits)
+set-among value (row ∷ inits) = ap (λ (b : Bool). eqb value (numberOf (row .value)) || b) (set-among value inits)
 
 -- set: members with known keys fit
 known-members-fit : (inits ops : List Row) → Known eqb firstKey memberRead (map setInit inits) ops → allFit (map (λ row. row .value) inits) (map (operationOf Set) ops) ≡ true
 unfolding allFit operationOf fits after memberRead pair triple firstKey
 known-members-fit inits [] k = refl
-known-members-fit inits (row ∷ ops) k = ap₂ _&&_ (sym (set-among (row .value) inits) ∙ k .0) (known-members-fit inits ops (k .1))
+known-members-fit inits (row ∷ ops) k = ap₂ _&&_ (sym (set-among (numberOf (row .value)) inits) ∙ k .0) (known-members-fit inits ops (k .1))
 
 -- set: every member fits
 pub set-sound : (q : ℕ) (inits ops : List Row) (ends : List Triple) → length ops < q → EquallyOften (map setInit inits ++ map (memberWrite q) ops) (map memberRead ops ++ ends) → allFit (map (λ row. row .value) inits) (map (operationOf Set) ops) ≡ true
 unfolding memberRead memberWrite pair triple firstKey plus
 set-sound q inits ops ends few often =
     known-members-fit inits ops
-    (lookups-known eqb firstKey memberRead (λ t. t .y) (memberWrite q) q (λ row. refl) (λ row. refl) eqb-self (map setInit inits) ops ends few often)
+    (lookups-known eqb firstKey memberRead (λ t. numberOf (t .y)) (memberWrite q) q (λ row. refl) (λ row. refl) eqb-self (map setInit inits) ops ends few often)
 
 -- range: the set-up holds the t numbers from i on
 range-holds : (age i t : ℕ) → contains eqb firstKey age (rangeSetup i t) ≡ true → (i ≤ age) × (age < i + t)
@@ -246,4 +248,4 @@ pub range-sound : (q t : ℕ) (lookups : List Lookup) (ends : List Triple) → l
 unfolding rangeRead rangeWrite pair triple firstKey plus
 range-sound q t lookups ends few often =
     known-ages-in-range t lookups
-    (lookups-known eqb firstKey rangeRead (λ r. r .y) (rangeWrite q) q (λ l. refl) (λ l. refl) eqb-self (rangeSetup 1 t) lookups ends few often)
+    (lookups-known eqb firstKey rangeRead (λ r. numberOf (r .y)) (rangeWrite q) q (λ l. refl) (λ l. refl) eqb-self (rangeSetup 1 t) lookups ends few often)

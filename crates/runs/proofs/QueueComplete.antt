@@ -10,14 +10,15 @@ use mathlib.Core.List.{List, [], _∷_, _++_, map, append-nil, append-assoc}
 use native.Mathlib.Omega.{arith}
 use lib.Dec.{eqb}
 use lib.ListN.{length, getD, drop, length-append, length-map}
-use borrow.Author.Tests.{eq-eqb, eqb-true}
 use Rattle.algebra.specs.Prime.{Prime}
 use Rattle.memory.specs.declared.Memory.the-variants.{Queue}
 use Rattle.memory.specs.declared.Op.the-variants.{Enqueue, Dequeue}
 use Rattle.memory.specs.declared.Row.{Row}
+use Rattle.memory.specs.Content.{Content, noContent, sameContent}
 use Rattle.memory.specs.Names.{opCode, isOp}
 use Rattle.memory.specs.Rows.{raiseBy, lowerBy, raised, lowered, opsDue, depthProduct}
 use Rattle.memory.specs.Equations.{enqueues, dequeues, endOlds}
+use Rattle.memory.proofs.Content.{same-content, content-same}
 use Rattle.runs.specs.Plain.{Operation, enqueue, skippedEnqueue, dequeue, skippedDequeue, operationOf, allFit, fits, after, holds}
 use Rattle.runs.specs.Honest.{Input, inputOf, filledRow, bare, endRow, queueFrom, impossible, inputOperation, possible}
 use Rattle.memory.proofs.Operations.{Ops, rowAt, row-cases}
@@ -25,37 +26,37 @@ use Rattle.runs.proofs.Inputs.{Inputs, inputAt, input-cases}
 use Rattle.runs.proofs.QueueDepth.{queue-depth-nonzero}
 
 -- the row that the filler writes for an operation of a queue, and the queue's elements after it
-unfoldable pub queueRow : List ℕ → Input → Row
-queueRow content i = filledRow i (cond (isOp (i .op) Enqueue) 0 (cond (eqb (i .guard) 1) (getD content 0 0) 0)) 0 0
+unfoldable pub queueRow : List Content → Input → Row
+queueRow content i = filledRow i (cond (isOp (i .op) Enqueue) noContent (cond (eqb (i .guard) 1) (getD content 0 noContent) noContent)) 0 0
 
-unfoldable pub queueContent : List ℕ → Input → List ℕ
+unfoldable pub queueContent : List Content → Input → List Content
 queueContent content i =
     cond (isOp (i .op) Enqueue)
     (cond (eqb (i .guard) 1) (content ++ i .value ∷ []) content)
     (cond (eqb (i .guard) 1) (drop 1 content) content)
 
 -- the operation rows, the elements left, and the end rows
-unfoldable pub queueOps : List ℕ → List Input → List Row
+unfoldable pub queueOps : List Content → List Input → List Row
 queueOps content [] = []
 queueOps content (i ∷ is) = queueRow content i ∷ queueOps (queueContent content i) is
 
-unfoldable pub queueFinal : List ℕ → List Input → List ℕ
+unfoldable pub queueFinal : List Content → List Input → List Content
 queueFinal content [] = content
 queueFinal content (i ∷ is) = queueFinal (queueContent content i) is
 
-unfoldable pub queueEnds : List ℕ → List Row
-queueEnds content = map (λ v. endRow 0 v 0 0) content
+unfoldable pub queueEnds : List Content → List Row
+queueEnds content = map (λ v. endRow noContent v 0 0) content
 
 -- one step of the filler
 queue-step :
-    (i : Input) (rest : List ℕ → List Row) (b : Bool) (o : ℕ) (xs ys : List ℕ)
-    → cond b (bare i ∷ rest xs) (filledRow i o 0 0 ∷ rest ys) ≡ filledRow i (cond b 0 o) 0 0 ∷ rest (cond b xs ys)
+    (i : Input) (rest : List Content → List Row) (b : Bool) (o : Content) (xs ys : List Content)
+    → cond b (bare i ∷ rest xs) (filledRow i o 0 0 ∷ rest ys) ≡ filledRow i (cond b noContent o) 0 0 ∷ rest (cond b xs ys)
 unfolding bare
 queue-step i rest true o xs ys = refl
 queue-step i rest false o xs ys = refl
 
 -- the filler's rows are the operation rows and the end rows
-pub queue-filled : (content : List ℕ) (is : List Input) → queueFrom content is ≡ queueOps content is ++ queueEnds (queueFinal content is)
+pub queue-filled : (content : List Content) (is : List Input) → queueFrom content is ≡ queueOps content is ++ queueEnds (queueFinal content is)
 unfolding queueFrom queueOps queueFinal queueEnds queueRow queueContent
 queue-filled content [] = refl
 queue-filled content (i ∷ is) =
@@ -63,31 +64,31 @@ queue-filled content (i ∷ is) =
     ∙ ap {B = List Row} (λ rows. queueRow content i ∷ rows) (queue-filled (queueContent content i) is)
 
 -- op and guard are copied
-pub queue-ops : (content : List ℕ) (is : List Input) → Inputs Queue is → Ops Queue (queueOps content is)
+pub queue-ops : (content : List Content) (is : List Input) → Inputs Queue is → Ops Queue (queueOps content is)
 unfolding queueOps queueRow filledRow
 queue-ops content [] due = tt
 queue-ops content (i ∷ is) due = (due .0, due .1, queue-ops (queueContent content i) is (due .2))
 
 -- the operation rows are filled from the inputs,
-pub queue-inputs : (content : List ℕ) (is : List Input) → map inputOf (queueOps content is) ≡ is
+pub queue-inputs : (content : List Content) (is : List Input) → map inputOf (queueOps content is) ≡ is
 unfolding queueOps queueRow filledRow inputOf
 queue-inputs content [] = refl
 queue-inputs content (i ∷ is) = ap {B = List Input} (λ l. i ∷ l) (queue-inputs (queueContent content i) is)
 
 -- one row for each
-pub queue-length : (content : List ℕ) (is : List Input) → length (queueOps content is) ≡ length is
+pub queue-length : (content : List Content) (is : List Input) → length (queueOps content is) ≡ length is
 unfolding queueOps
 queue-length content [] = refl
 queue-length content (i ∷ is) = ap suc (queue-length (queueContent content i) is)
 
 -- the end rows hold the elements left
-pub queue-olds : (content : List ℕ) → endOlds (queueEnds content) ≡ content
+pub queue-olds : (content : List Content) → endOlds (queueEnds content) ≡ content
 unfolding queueEnds endOlds endRow
 queue-olds [] = refl
-queue-olds (v ∷ content) = ap {B = List ℕ} (λ l. v ∷ l) (queue-olds content)
+queue-olds (v ∷ content) = ap {B = List Content} (λ l. v ∷ l) (queue-olds content)
 
 -- what holds of the rows from some content on
-record Filled (content : List ℕ) (is : List Input) : Type 0 where
+record Filled (content : List Content) (is : List Input) : Type 0 where
   -- the elements in the queue and those enqueued are those dequeued and those left
   equal : content ++ enqueues (queueOps content is) ≡ dequeues (queueOps content is) ++ queueFinal content is
   -- the depth
@@ -97,7 +98,7 @@ record Filled (content : List ℕ) (is : List Input) : Type 0 where
 
 -- what is to be shown of the operations from some point on
 abbrev Complete : List Input → Type 0
-Complete is = (content : List ℕ) → possible Queue content is ≡ true → Filled content is
+Complete is = (content : List Content) → possible Queue content is ≡ true → Filled content is
 
 -- an executed enqueue
 complete-enqueue : (i : Input) (is : List Input) → Complete is → Complete (inputAt Enqueue 1 i ∷ is)
@@ -117,9 +118,9 @@ complete-dequeue i is rest [] can = absurd (false≢true can)
 complete-dequeue i is rest (c ∷ content) can =
     let r = rest content can in
     record {
-      equal = ap {B = List ℕ} (λ l. c ∷ l) (r .equal);
+      equal = ap {B = List Content} (λ l. c ∷ l) (r .equal);
       depth = omega (arith, r .depth);
-      fit = rw (eq-eqb c c refl) (r .fit);
+      fit = rw (content-same c c refl) (r .fit);
     }
 
 -- a skipped enqueue
@@ -160,7 +161,7 @@ pub queue-balance :
     (is : List Input) → Inputs Queue is → possible Queue [] is ≡ true
     → enqueues (queueOpRows is) ≡ dequeues (queueOpRows is) ++ endOlds (queueEndRows is)
 queue-balance is due can =
-    complete-from is due [] can .equal ∙ ap (λ (l : List ℕ). dequeues (queueOpRows is) ++ l) (sym (queue-olds (queueFinal [] is)))
+    complete-from is due [] can .equal ∙ ap (λ (l : List Content). dequeues (queueOpRows is) ++ l) (sym (queue-olds (queueFinal [] is)))
 
 -- there are as many end rows as the depth,
 pub queue-ends-due :
@@ -168,7 +169,7 @@ pub queue-ends-due :
     → length (queueEndRows is) ≡ raised (queueOpRows is) - lowered (queueOpRows is)
 unfolding queueEnds
 queue-ends-due is due can =
-    length-map (queueFinal [] is) (λ v. endRow 0 v 0 0) ∙ omega (arith, complete-from is due [] can .depth)
+    length-map (queueFinal [] is) (λ v. endRow noContent v 0 0) ∙ omega (arith, complete-from is due [] can .depth)
 
 -- every operation fits,
 pub queue-fits :
@@ -183,13 +184,13 @@ queue-nonzero q is prime due room can =
     queue-depth-nonzero q (queueOpRows is) prime (queue-ops [] is due) (omega (arith, queue-length [] is)) (queue-fits is due can)
 
 -- of rows whose operations fit: they are possible, and the filled rows have the same operations
-record Refilled (content : List ℕ) (rows : List Row) : Type 0 where
+record Refilled (content : List Content) (rows : List Row) : Type 0 where
   can : possible Queue content (map inputOf rows) ≡ true
   kept : map (operationOf Queue) (queueOps content (map inputOf rows)) ≡ map (operationOf Queue) rows
 
 -- what is to be shown of the rows from some point on
 abbrev Refills : List Row → Type 0
-Refills rows = (content : List ℕ) → allFit content (map (operationOf Queue) rows) ≡ true → Refilled content rows
+Refills rows = (content : List Content) → allFit content (map (operationOf Queue) rows) ≡ true → Refilled content rows
 
 -- an executed enqueue
 refills-enqueue : (row : Row) (rows : List Row) → Refills rows → Refills (rowAt Enqueue 1 row ∷ rows)
@@ -210,11 +211,11 @@ refills-dequeue : (row : Row) (rows : List Row) → Refills rows → Refills (ro
 unfolding rowAt inputOf isOp opCode operationOf allFit fits after holds impossible inputOperation possible bare filledRow queueRow queueContent queueOps
 refills-dequeue row rows rest [] fit = absurd (false≢true fit)
 refills-dequeue row rows rest (c ∷ content) fit =
-    let both = and-eq-true-iff (eqb (row .old) c) _ .0 fit in
+    let both = and-eq-true-iff (sameContent (row .old) c) _ .0 fit in
     let r = rest content (both .1) in
     record {
       can = r .can;
-      kept = ap₂ {C = List Operation} (λ o l. dequeue o ∷ l) (sym (eqb-true (row .old) c (both .0))) (r .kept);
+      kept = ap₂ {C = List Operation} (λ o l. dequeue o ∷ l) (sym (same-content (row .old) c (both .0))) (r .kept);
     }
 
 -- a skipped dequeue

@@ -7,7 +7,6 @@ use mathlib.Core.Bool.{true, false≢true, and-eq-true-iff}
 use mathlib.Core.List.{List, [], _∷_, _++_, map}
 use native.Mathlib.Nat.{mod-lt, mod-eq-of-lt}
 use native.Mathlib.Omega.{arith}
-use lib.Dec.{eqb}
 use lib.ListN.{length, length-append}
 use Rattle.algebra.specs.Modulo.{minus, times}
 use Rattle.algebra.specs.Prime.{Prime}
@@ -15,6 +14,7 @@ use Rattle.algebra.proofs.Euclid.{zero-product}
 use Rattle.memory.specs.declared.Memory.the-variants.{Queue}
 use Rattle.memory.specs.declared.Op.the-variants.{Enqueue, Dequeue}
 use Rattle.memory.specs.declared.Row.{Row}
+use Rattle.memory.specs.Content.{Content, sameContent}
 use Rattle.memory.specs.Names.{opCode, isOp}
 use Rattle.memory.specs.Rows.{raiseBy, lowerBy, opsDue, depthFactor, depthProduct}
 use Rattle.runs.specs.Plain.{operationOf, allFit, fits, after, holds}
@@ -39,7 +39,7 @@ depth-product-below q up down (row ∷ rows) h = mod-lt _ (omega arith)
 -- what is to be shown of the operations from some point on
 abbrev NotZero : ℕ → List Row → Type 0
 NotZero q ops =
-    (cells : List ℕ) (up down : ℕ)
+    (cells : List Content) (up down : ℕ)
     → length cells + down ≡ up
     → up + length ops < q
     → allFit cells (map (operationOf Queue) ops) ≡ true
@@ -73,7 +73,7 @@ nonzero-dequeue q row rows prime rest [] up down depth room fit = absurd (false�
 nonzero-dequeue q row rows prime rest (c ∷ cells) up down depth room fit =
     let factor = minus-exact q (up + 1) (down + 1) (suc (length cells)) (omega arith) (omega arith) in
     factor-nonzero q (minus q (up + 1) (down + 1)) (up + 0) (down + 1) rows prime (omega arith) (omega arith)
-    (rest cells (up + 0) (down + 1) (omega arith) (omega arith) (and-eq-true-iff (eqb (row .old) c) _ .0 fit .1))
+    (rest cells (up + 0) (down + 1) (omega arith) (omega arith) (and-eq-true-iff (sameContent (row .old) c) _ .0 fit .1))
 
 -- a skipped dequeue: its factor is one more than the number of elements
 nonzero-skipped-dequeue : (q : ℕ) (row : Row) (rows : List Row) → Prime q → NotZero q rows → NotZero q (rowAt Dequeue 0 row ∷ rows)

@@ -8,16 +8,18 @@ use mathlib.Core.List.{List, [], _∷_, map}
 use native.Mathlib.Omega.{arith}
 use lib.Dec.{eqb}
 use lib.ListN.{length, getD, set, length-set, length-map, List·getD-map}
-use borrow.Author.Tests.{lt-ltb, eq-eqb}
+use borrow.Author.Tests.{lt-ltb}
 use Rattle.algebra.specs.Multiset.{total}
 use Rattle.memory.specs.declared.Memory.the-variants.{Ram}
 use Rattle.memory.specs.declared.Row.{Row}
+use Rattle.memory.specs.Content.{Content, noContent}
 use Rattle.memory.specs.Equations.{Triple, triple, initWrites, accessRead, newOf, accessWrites}
+use Rattle.memory.proofs.Content.{content-same}
 use Rattle.runs.specs.Plain.{store, load, fits, after, operationOf}
 use Rattle.runs.specs.Honest.{Cell, cell, cellAt}
 
 -- the contents of the cells: what the plain memory holds
-abbrev pub contents : List Cell → List ℕ
+abbrev pub contents : List Cell → List Content
 contents cells = map (λ c. c .content) cells
 
 -- the record of a cell at an address, and of the cells at the addresses from i on
@@ -29,13 +31,13 @@ cellRecords i [] = []
 cellRecords i (c ∷ cells) = cellRecord i c ∷ cellRecords (suc i) cells
 
 -- the cells at the start, by the init values
-abbrev pub startCells : List ℕ → List Cell
+abbrev pub startCells : List Content → List Cell
 startCells values = map (λ v. cell v 0) values
 
-pub start-contents : (values : List ℕ) → contents (startCells values) ≡ values
+pub start-contents : (values : List Content) → contents (startCells values) ≡ values
 unfolding cell
 start-contents [] = refl
-start-contents (v ∷ values) = ap {B = List ℕ} (λ l. v ∷ l) (start-contents values)
+start-contents (v ∷ values) = ap {B = List Content} (λ l. v ∷ l) (start-contents values)
 
 -- the init rows write their records
 pub start-records : (i : ℕ) (inits : List Row) → initWrites i inits ≡ cellRecords i (startCells (map (λ row. row .value) inits))
@@ -58,38 +60,38 @@ total-set weight i (suc k) j (d ∷ cells) c e h =
 contents-set : (cells : List Cell) (k : ℕ) (c : Cell) → contents (set cells k c) ≡ set (contents cells) k (c .content)
 contents-set [] k c = refl
 contents-set (d ∷ cells) zero c = refl
-contents-set (d ∷ cells) (suc k) c = ap {B = List ℕ} (λ l. d .content ∷ l) (contents-set cells k c)
+contents-set (d ∷ cells) (suc k) c = ap {B = List Content} (λ l. d .content ∷ l) (contents-set cells k c)
 
 -- the content of a cell
-pub contents-at : (cells : List Cell) (k : ℕ) → getD (contents cells) k 0 ≡ cellAt cells k .content
+pub contents-at : (cells : List Cell) (k : ℕ) → getD (contents cells) k noContent ≡ cellAt cells k .content
 unfolding cellAt cell
-contents-at cells k = List·getD-map (λ (c : Cell). c .content) cells k (cell 0 0)
+contents-at cells k = List·getD-map (λ (c : Cell). c .content) cells k (cell noContent 0)
 
 -- a list in which an entry is replaced by itself
-set-same : (xs : List ℕ) (k d : ℕ) → set xs k (getD xs k d) ≡ xs
+set-same : (xs : List Content) (k : ℕ) (d : Content) → set xs k (getD xs k d) ≡ xs
 set-same [] k d = refl
 set-same (x ∷ xs) zero d = refl
-set-same (x ∷ xs) (suc k) d = ap {B = List ℕ} (λ l. x ∷ l) (set-same xs k d)
+set-same (x ∷ xs) (suc k) d = ap {B = List Content} (λ l. x ∷ l) (set-same xs k d)
 
 -- a store or load at an address of the content, whose old is what stands there, fits
-fits-at : (b : Bool) (content : List ℕ) (a v o : ℕ) → a < length content → getD content a 0 ≡ o → fits content (cond b (store a v) (load a v o)) ≡ true
+fits-at : (b : Bool) (content : List Content) (a : ℕ) (v o : Content) → a < length content → getD content a noContent ≡ o → fits content (cond b (store a v) (load a v o)) ≡ true
 unfolding fits
 fits-at true content a v o h e = simp (lt-ltb a (length content) h)
-fits-at false content a v o h e = rw (lt-ltb a (length content) h) (eq-eqb o (getD content a 0) (sym e))
+fits-at false content a v o h e = rw (lt-ltb a (length content) h) (content-same o (getD content a noContent) (sym e))
 
 -- after it the stored value stands there, or what stood there
-after-at : (b : Bool) (content : List ℕ) (a v o : ℕ) → getD content a 0 ≡ o → after content (cond b (store a v) (load a v o)) ≡ set content a (cond b v o)
+after-at : (b : Bool) (content : List Content) (a : ℕ) (v o : Content) → getD content a noContent ≡ o → after content (cond b (store a v) (load a v o)) ≡ set content a (cond b v o)
 unfolding after
 after-at true content a v o e = refl
-after-at false content a v o e = sym (ap (set content a) (sym e) ∙ set-same content a 0)
+after-at false content a v o e = sym (ap (set content a) (sym e) ∙ set-same content a noContent)
 
 -- an access leaves as many cells
-length-at : (b : Bool) (content : List ℕ) (a v o : ℕ) → length (after content (cond b (store a v) (load a v o))) ≡ length content
+length-at : (b : Bool) (content : List Content) (a : ℕ) (v o : Content) → length (after content (cond b (store a v) (load a v o))) ≡ length content
 unfolding after
 length-at true content a v o = length-set content a v
 length-at false content a v o = refl
 
-pub access-length : (content : List ℕ) (row : Row) → length (after content (operationOf Ram row)) ≡ length content
+pub access-length : (content : List Content) (row : Row) → length (after content (operationOf Ram row)) ≡ length content
 unfolding operationOf
 access-length content row = length-at (eqb (row .guard) 1) content (row .addr) (row .value) (row .old)
 
@@ -112,7 +114,7 @@ access-exchange weight clock cells row reads = omega (arith, replaced, taken, pu
     replaced = total-set weight 0 (row .addr) (row .addr) cells (cell (newOf row) clock) (omega arith) (reads .0)
 
     taken : weight (cellRecord (row .addr) (cellAt cells (row .addr))) ≡ weight (accessRead row)
-    taken = unfold cellRecord accessRead in ap₂ (λ (y z : ℕ). weight (triple (row .addr) y z)) (reads .1) (reads .2)
+    taken = unfold cellRecord accessRead in ap₂ (λ (y : Content) (z : ℕ). weight (triple (row .addr) y z)) (reads .1) (reads .2)
 
     put : weight (cellRecord (row .addr) (cell (newOf row) clock)) ≡ weight (triple (row .addr) (newOf row) clock)
     put = unfold cellRecord cell in refl

@@ -14,6 +14,7 @@ use Rattle.algebra.specs.Multiset.{total, EquallyOften}
 use Rattle.algebra.proofs.Multiset.{total-append}
 use Rattle.memory.specs.declared.Memory.the-variants.{Ram}
 use Rattle.memory.specs.declared.Row.{Row}
+use Rattle.memory.specs.Content.{Content, noContent}
 use Rattle.memory.specs.Equations.{Triple, triple, Lookup, initWrites, accessRead, newOf, accessWrites, accessLookups, cellEnds, rangeSetup, rangeRead, rangeWrite, rangeEnds}
 use Rattle.runs.specs.Plain.{store, load, after, operationOf}
 use Rattle.runs.specs.Honest.{Input, inputOf, filledRow, bare, endRow, occurrences, rangeRowsFrom, Cell, cell, cellAt, ramAge, ramRow, ramCells, ramEnds, ramFrom, impossible, inputOperation, possible, operationsFilled}
@@ -72,7 +73,7 @@ final-cells-length cells clock (i ∷ is) = final-cells-length (ramCells cells c
 
 ends-length : (cells : List Cell) (clock : ℕ) (is : List Input) → length (ramEnds (ramFinalCells cells clock is)) ≡ length cells
 unfolding ramEnds
-ends-length cells clock is = length-map (ramFinalCells cells clock is) (λ (c : Cell). endRow 0 (c .content) (c .time) 0) ∙ final-cells-length cells clock is
+ends-length cells clock is = length-map (ramFinalCells cells clock is) (λ (c : Cell). endRow noContent (c .content) (c .time) 0) ∙ final-cells-length cells clock is
 
 pub ranges-length : (i t : ℕ) (ages : List ℕ) → length (rangeRowsFrom i t ages) ≡ t
 unfolding rangeRowsFrom
@@ -89,21 +90,21 @@ below-tested : (b : Bool) → eqb (cond b 0 11) 0 ≡ b
 below-tested true = refl
 below-tested false = refl
 
-impossible-at : (b : Bool) (content : List ℕ) (a v o : ℕ) → eqb (impossible content (cond b (store a v) (load a v o))) 0 ≡ ltb a (length content)
+impossible-at : (b : Bool) (content : List Content) (a : ℕ) (v o : Content) → eqb (impossible content (cond b (store a v) (load a v o))) 0 ≡ ltb a (length content)
 unfolding impossible
 impossible-at true content a v o = below-tested (ltb a (length content))
 impossible-at false content a v o = below-tested (ltb a (length content))
 
-input-possible : (content : List ℕ) (i : Input) → eqb (impossible content (inputOperation Ram i)) 0 ≡ ltb (i .addr) (length content)
+input-possible : (content : List Content) (i : Input) → eqb (impossible content (inputOperation Ram i)) 0 ≡ ltb (i .addr) (length content)
 unfolding inputOperation operationOf bare filledRow
-input-possible content i = impossible-at (eqb (i .guard) 1) content (i .addr) (i .value) 0
+input-possible content i = impossible-at (eqb (i .guard) 1) content (i .addr) (i .value) noContent
 
-input-length : (content : List ℕ) (i : Input) → length (after content (inputOperation Ram i)) ≡ length content
+input-length : (content : List Content) (i : Input) → length (after content (inputOperation Ram i)) ≡ length content
 unfolding inputOperation
 input-length content i = access-length content (bare i)
 
 -- where every access is possible, the addresses are below the number of cells, and the other way round
-possible-within : (content : List ℕ) (is : List Input) → possible Ram content is ≡ true → Within (length content) is
+possible-within : (content : List Content) (is : List Input) → possible Ram content is ≡ true → Within (length content) is
 unfolding possible
 possible-within content [] e = tt
 possible-within content (i ∷ is) e =
@@ -112,7 +113,7 @@ possible-within content (i ∷ is) e =
       subst (λ (n : ℕ). Within n is) (input-length content i) (possible-within (after content (inputOperation Ram i)) is (both .1)),
     )
 
-pub within-possible : (content : List ℕ) (is : List Input) → Within (length content) is → possible Ram content is ≡ true
+pub within-possible : (content : List Content) (is : List Input) → Within (length content) is → possible Ram content is ≡ true
 unfolding possible
 within-possible content [] w = refl
 within-possible content (i ∷ is) w =
@@ -158,7 +159,7 @@ before-at clock [] k started b = started
 before-at clock (c ∷ cells) zero started b = b .0
 before-at clock (c ∷ cells) (suc k) started b = before-at clock cells k started (b .1)
 
-before-set : (clock : ℕ) (cells : List Cell) (k v : ℕ) → Before clock cells → Before (suc clock) (set cells k (cell v clock))
+before-set : (clock : ℕ) (cells : List Cell) (k : ℕ) (v : Content) → Before clock cells → Before (suc clock) (set cells k (cell v clock))
 unfolding cell
 before-set clock [] k v b = tt
 before-set clock (c ∷ cells) zero v b = (omega arith, before-later clock (suc clock) cells (omega arith) (b .1))
@@ -168,7 +169,7 @@ before-access : (clock : ℕ) (cells : List Cell) (i : Input) → Before clock c
 unfolding ramCells
 before-access clock cells i b = before-set clock cells (i .addr) (cond (eqb (i .guard) 1) (i .value) (cellAt cells (i .addr) .content)) b
 
-before-start : (values : List ℕ) → Before 1 (startCells values)
+before-start : (values : List Content) → Before 1 (startCells values)
 unfolding cell
 before-start [] = tt
 before-start (v ∷ values) = (omega arith, before-start values)
@@ -208,37 +209,37 @@ honest-ram-lookups q cells clock ages (i ∷ is) started left b =
     (honest-ram-lookups q (ramCells cells clock i) (suc clock) (ramAge cells clock i ∷ ages) is (omega arith) (omega arith) (before-access clock cells i b))
 
 -- the honest rows of a ram, by its init values and operations
-abbrev pub ramOpRows : List ℕ → List Input → List Row
+abbrev pub ramOpRows : List Content → List Input → List Row
 ramOpRows values is = ramOps (startCells values) 1 [] is
 
-abbrev pub ramEndRows : List ℕ → List Input → List Row
+abbrev pub ramEndRows : List Content → List Input → List Row
 ramEndRows values is = ramEnds (ramFinalCells (startCells values) 1 is)
 
-abbrev pub ramRangeRows : ℕ → List ℕ → List Input → List Row
+abbrev pub ramRangeRows : ℕ → List Content → List Input → List Row
 ramRangeRows t values is = rangeRowsFrom 1 t (ramFinalAges (startCells values) 1 [] is)
 
 -- what the filler writes after the init rows: they, in this order
-pub ram-rows : (t : ℕ) (values : List ℕ) (ops : List Input)
+pub ram-rows : (t : ℕ) (values : List Content) (ops : List Input)
     → operationsFilled Ram t values ops ≡ ramOpRows values ops ++ (ramEndRows values ops ++ ramRangeRows t values ops)
 unfolding operationsFilled
 ram-rows t values ops = ram-split (startCells values) 1 [] t ops
 
 -- how many they are: one for each operation, one for each init value, t
-pub ram-op-rows-length : (values : List ℕ) (ops : List Input) → length (ramOpRows values ops) ≡ length ops
+pub ram-op-rows-length : (values : List Content) (ops : List Input) → length (ramOpRows values ops) ≡ length ops
 ram-op-rows-length values ops = ops-length (startCells values) 1 [] ops
 
-pub ram-end-rows-length : (values : List ℕ) (ops : List Input) → length (ramEndRows values ops) ≡ length values
+pub ram-end-rows-length : (values : List Content) (ops : List Input) → length (ramEndRows values ops) ≡ length values
 ram-end-rows-length values ops = ends-length (startCells values) 1 ops ∙ length-map values (λ v. cell v 0)
 
 -- possible accesses have addresses of the cells at the start
-start-within : (values : List ℕ) (is : List Input) → possible Ram values is ≡ true → Within (length (startCells values)) is
+start-within : (values : List Content) (is : List Input) → possible Ram values is ≡ true → Within (length (startCells values)) is
 start-within values is e = subst (λ (n : ℕ). Within n is) (sym (length-map values (λ v. cell v 0))) (possible-within values is e)
 
 -- the init rows keep their values
 bare-values : (inits : List Input) → map (λ row. row .value) (map bare inits) ≡ map (λ i. i .value) inits
 unfolding bare filledRow
 bare-values [] = refl
-bare-values (i ∷ is) = ap {B = List ℕ} (λ l. i .value ∷ l) (bare-values is)
+bare-values (i ∷ is) = ap {B = List Content} (λ l. i .value ∷ l) (bare-values is)
 
 -- the memory's shuffle: the records written are the records read and ended
 pub ram-complete : (inits ops : List Input) → possible Ram (map (λ i. i .value) inits) ops ≡ true
@@ -254,24 +255,24 @@ ram-complete inits ops e weight =
       ap (total weight) (end-records 0 (ramFinalCells (startCells values) 1 ops)),
     )
   where
-    values : List ℕ
+    values : List Content
     values = map (λ i. i .value) inits
 
     rows : List Row
     rows = ramOpRows values ops
 
     starting : initWrites 0 (map bare inits) ≡ cellRecords 0 (startCells values)
-    starting = start-records 0 (map bare inits) ∙ ap (λ (vs : List ℕ). cellRecords 0 (startCells vs)) (bare-values inits)
+    starting = start-records 0 (map bare inits) ∙ ap (λ (vs : List Content). cellRecords 0 (startCells vs)) (bare-values inits)
 
 -- the lookups of the honest rows, by the ages clock − time
-pub ram-lookups : (q : ℕ) (values : List ℕ) (ops : List Input) → length ops < q → accessLookups q 1 (ramOpRows values ops) ≡ honestLookups [] (ramAges (startCells values) 1 ops)
+pub ram-lookups : (q : ℕ) (values : List Content) (ops : List Input) → length ops < q → accessLookups q 1 (ramOpRows values ops) ≡ honestLookups [] (ramAges (startCells values) 1 ops)
 ram-lookups q values ops below = honest-ram-lookups q (startCells values) 1 [] ops (omega arith) (omega arith) (before-start values)
 
-pub ram-ages-in : (t : ℕ) (values : List ℕ) (ops : List Input) → length ops ≡ t → AgesIn t (ramAges (startCells values) 1 ops)
+pub ram-ages-in : (t : ℕ) (values : List Content) (ops : List Input) → length ops ≡ t → AgesIn t (ramAges (startCells values) 1 ops)
 ram-ages-in t values ops count = honest-ages-in t (startCells values) 1 ops (omega arith) (omega arith) (before-start values)
 
 -- the range's shuffle: the pairs supplied are the pairs looked up and ended
-pub ram-range-complete : (q t : ℕ) (values : List ℕ) (ops : List Input) → length ops ≡ t → t < q
+pub ram-range-complete : (q t : ℕ) (values : List Content) (ops : List Input) → length ops ≡ t → t < q
     → EquallyOften (rangeSetup 1 t ++ map (rangeWrite q) (accessLookups q 1 (ramOpRows values ops)))
     (map rangeRead (accessLookups q 1 (ramOpRows values ops)) ++ rangeEnds 1 (ramRangeRows t values ops))
 ram-range-complete q t values ops count below =

@@ -7,30 +7,32 @@ use mathlib.Core.List.{List, [], _∷_, map}
 use native.Mathlib.Omega.{arith}
 use lib.Dec.{eqb, ltb}
 use lib.ListN.{length, getD, length-map}
-use borrow.Author.Tests.{ltb-true, eqb-true}
+use borrow.Author.Tests.{ltb-true}
 use Rattle.memory.specs.declared.Memory.the-variants.{Ram}
 use Rattle.memory.specs.declared.Row.{Row}
+use Rattle.memory.specs.Content.{Content, noContent, sameContent}
+use Rattle.memory.proofs.Content.{same-content}
 use Rattle.runs.specs.Plain.{Operation, store, load, fits, after, allFit, operationOf}
 use Rattle.runs.specs.Honest.{inputOf, filledRow, Cell, ramAge, ramRow, ramCells, possible}
 use Rattle.runs.proofs.RamCells.{contents, contents-at, startCells, start-contents, access-length, access-after}
 use Rattle.runs.proofs.RamComplete.{ramOps, ramOpRows, Within, within-possible, honest-reads, honest-accessed}
 
 -- a store or load that fits has an address of the content
-below-of-fits : (b : Bool) (content : List ℕ) (a v o : ℕ) → fits content (cond b (store a v) (load a v o)) ≡ true → a < length content
+below-of-fits : (b : Bool) (content : List Content) (a : ℕ) (v o : Content) → fits content (cond b (store a v) (load a v o)) ≡ true → a < length content
 unfolding fits
 below-of-fits true content a v o e = ltb-true a (length content) e
-below-of-fits false content a v o e = ltb-true a (length content) (and-eq-true-iff (ltb a (length content)) (eqb o (getD content a 0)) .0 e .0)
+below-of-fits false content a v o e = ltb-true a (length content) (and-eq-true-iff (ltb a (length content)) (sameContent o (getD content a noContent)) .0 e .0)
 
 -- its old, if the trace has one, is what stands there
-old-of-fits : (b : Bool) (content : List ℕ) (a v o : ℕ) → fits content (cond b (store a v) (load a v o)) ≡ true
-    → cond b (store a v) (load a v (getD content a 0)) ≡ cond b (store a v) (load a v o)
+old-of-fits : (b : Bool) (content : List Content) (a : ℕ) (v o : Content) → fits content (cond b (store a v) (load a v o)) ≡ true
+    → cond b (store a v) (load a v (getD content a noContent)) ≡ cond b (store a v) (load a v o)
 unfolding fits
 old-of-fits true content a v o e = refl
 old-of-fits false content a v o e =
-    ap (load a v) (sym (eqb-true o (getD content a 0) (and-eq-true-iff (ltb a (length content)) (eqb o (getD content a 0)) .0 e .1)))
+    ap (load a v) (sym (same-content o (getD content a noContent) (and-eq-true-iff (ltb a (length content)) (sameContent o (getD content a noContent)) .0 e .1)))
 
 -- an access that fits has an address of the content, and its honest row is the same operation
-access-below : (content : List ℕ) (row : Row) → fits content (operationOf Ram row) ≡ true → row .addr < length content
+access-below : (content : List Content) (row : Row) → fits content (operationOf Ram row) ≡ true → row .addr < length content
 unfolding operationOf
 access-below content row e = below-of-fits (eqb (row .guard) 1) content (row .addr) (row .value) (row .old) e
 
@@ -38,7 +40,7 @@ access-same : (cells : List Cell) (clock : ℕ) (ages : List ℕ) (row : Row) �
     → operationOf Ram (ramRow cells clock ages (inputOf row)) ≡ operationOf Ram row
 unfolding operationOf ramRow filledRow inputOf
 access-same cells clock ages row e =
-    ap (λ (o : ℕ). cond (eqb (row .guard) 1) (store (row .addr) (row .value)) (load (row .addr) (row .value) o)) (sym (contents-at cells (row .addr)))
+    ap (λ (o : Content). cond (eqb (row .guard) 1) (store (row .addr) (row .value)) (load (row .addr) (row .value) o)) (sym (contents-at cells (row .addr)))
     ∙ old-of-fits (eqb (row .guard) 1) (contents cells) (row .addr) (row .value) (row .old) e
 
 -- after it the contents are those of the honest cells
@@ -64,7 +66,7 @@ right-same-from cells clock ages (row ∷ rows) e =
     (rw (access-contents cells clock ages row (both .0)) at (both .1)))
 
 -- the addresses of accesses that fit are below the number of cells
-right-within : (content : List ℕ) (ops : List Row) → allFit content (map (operationOf Ram) ops) ≡ true → Within (length content) (map inputOf ops)
+right-within : (content : List Content) (ops : List Row) → allFit content (map (operationOf Ram) ops) ≡ true → Within (length content) (map inputOf ops)
 unfolding allFit inputOf
 right-within content [] e = tt
 right-within content (row ∷ rows) e =
@@ -74,10 +76,10 @@ right-within content (row ∷ rows) e =
     )
 
 -- a right trace is one that the filler fills
-pub ram-right-possible : (values : List ℕ) (ops : List Row) → allFit values (map (operationOf Ram) ops) ≡ true → possible Ram values (map inputOf ops) ≡ true
+pub ram-right-possible : (values : List Content) (ops : List Row) → allFit values (map (operationOf Ram) ops) ≡ true → possible Ram values (map inputOf ops) ≡ true
 ram-right-possible values ops e = within-possible values (map inputOf ops) (right-within values ops e)
 
 -- with the same operations
-pub ram-right-same : (values : List ℕ) (ops : List Row) → allFit values (map (operationOf Ram) ops) ≡ true
+pub ram-right-same : (values : List Content) (ops : List Row) → allFit values (map (operationOf Ram) ops) ≡ true
     → map (operationOf Ram) (ramOpRows values (map inputOf ops)) ≡ map (operationOf Ram) ops
 ram-right-same values ops e = right-same-from (startCells values) 1 [] ops (rw (start-contents values) e)

@@ -1,7 +1,8 @@
--- The stack of document 01, from the filler's rows to balanced shuffles: the operation rows, end rows and range rows that the filler writes;
--- where every operation is possible, the records written are those read and ended, the ages are in the range and their versions count the
--- earlier lookups, there are as many end rows as the depth, and every operation fits. And a right trace is possible, and its filled rows have
--- the same operations.
+-- The stack of document 01, from the filler's rows to balanced shuffles: the operation rows, end
+-- rows and range rows that the filler writes; where every operation is possible, the records
+-- written are those read and ended, the ages are in the range and their versions count the earlier
+-- lookups, there are as many end rows as the depth, and every operation fits. And a right trace is
+-- possible, its filled rows have the same operations, and its depth is not below 0.
 -- Assumes nothing.
 use Prim.Native.Nat.{ℕ, suc, _+_, _-_, _≤_, _<_}
 use mathlib.Core.Path.{_≡_, refl, sym, _∙_, ap, ap₂, subst}
@@ -10,16 +11,17 @@ use mathlib.Core.List.{List, [], _∷_, _++_, map}
 use native.Mathlib.Omega.{arith}
 use lib.Dec.{eqb}
 use lib.ListN.{length, drop, length-append}
-use borrow.Author.Tests.{eqb-true}
 use Rattle.algebra.specs.Modulo.{minus}
 use Rattle.algebra.specs.Multiset.{total, EquallyOften}
 use Rattle.algebra.proofs.Multiset.{total-append}
 use Rattle.memory.specs.declared.Memory.the-variants.{Stack}
 use Rattle.memory.specs.declared.Op.the-variants.{Push, Pop}
 use Rattle.memory.specs.declared.Row.{Row}
+use Rattle.memory.specs.Content.{Content, noContent, sameContent}
 use Rattle.memory.specs.Names.{opCode, isOp}
 use Rattle.memory.specs.Rows.{raiseBy, lowerBy, raised, lowered, opsDue}
 use Rattle.memory.specs.Equations.{Triple, triple, Lookup, pushWrite, pushWrites, popRead, popReads, popLookup, popLookups, cellEnds, rangeSetup, rangeRead, rangeWrite, rangeEnds}
+use Rattle.memory.proofs.Content.{same-content}
 use Rattle.runs.specs.Plain.{Operation, push, skippedPush, pop, skippedPop, operationOf, allFit, fits, after}
 use Rattle.runs.specs.Honest.{Input, inputOf, filledRow, bare, endRow, Cell, cell, cellAt, topCell, occurrences, rangeRowsFrom, stackEnds, popTime, popRow, stackFrom, impossible, inputOperation, possible}
 use Rattle.runs.proofs.Ages.{InRange}
@@ -39,7 +41,7 @@ stackAge cells clock i = cond (isOp (i .op) Push) [] ((clock - popTime cells clo
 unfoldable pub stackRow : List Cell → ℕ → List ℕ → Input → Row
 stackRow cells clock ages i =
     filledRow i
-    (cond (isOp (i .op) Push) 0 (cond (eqb (i .guard) 1) (topCell cells .content) 0))
+    (cond (isOp (i .op) Push) noContent (cond (eqb (i .guard) 1) (topCell cells .content) noContent))
     (cond (isOp (i .op) Push) 0 (popTime cells clock i))
     (cond (isOp (i .op) Push) 0 (occurrences (clock - popTime cells clock i) ages))
 
@@ -75,9 +77,9 @@ stackFinalAges cells clock ages (i ∷ is) =
 
 -- one step of the filler
 stack-step :
-    (i : Input) (rest : List Cell → ℕ → List ℕ → List Row) (b : Bool) (o s n c d : ℕ) (xs ys : List Cell) (ages : List ℕ) (a : ℕ)
+    (i : Input) (rest : List Cell → ℕ → List ℕ → List Row) (b : Bool) (o : Content) (s n c d : ℕ) (xs ys : List Cell) (ages : List ℕ) (a : ℕ)
     → cond b (bare i ∷ rest xs c ages) (filledRow i o s n ∷ rest ys d (a ∷ ages))
-    ≡ filledRow i (cond b 0 o) (cond b 0 s) (cond b 0 n) ∷ rest (cond b xs ys) (cond b c d) (agesAfter ages (cond b [] (a ∷ [])))
+    ≡ filledRow i (cond b noContent o) (cond b 0 s) (cond b 0 n) ∷ rest (cond b xs ys) (cond b c d) (agesAfter ages (cond b [] (a ∷ [])))
 unfolding bare agesAfter keysAfter
 stack-step i rest true o s n c d xs ys ages a = refl
 stack-step i rest false o s n c d xs ys ages a = refl
@@ -154,7 +156,7 @@ ends-added weight i (r ∷ rows) row =
 pub ends-length : (cells : List Cell) → length (stackEnds cells) ≡ length cells
 unfolding stackEnds
 ends-length [] = refl
-ends-length (c ∷ cells) = omega (arith, length-append (stackEnds cells) (endRow 0 (c .content) (c .time) 0 ∷ []), ends-length cells)
+ends-length (c ∷ cells) = omega (arith, length-append (stackEnds cells) (endRow noContent (c .content) (c .time) 0 ∷ []), ends-length cells)
 
 -- and they read the records of the cells
 ends-records : (weight : Triple → ℕ) (cells : List Cell) → total weight (cellEnds 1 (stackEnds cells)) ≡ total weight (stackRecords cells)
@@ -164,7 +166,7 @@ ends-records weight (c ∷ cells) =
     let same : 1 + length (stackEnds cells) ≡ suc (length cells) = omega (arith, ends-length cells) in
     omega (
       arith,
-      ends-added weight 1 (stackEnds cells) (endRow 0 (c .content) (c .time) 0),
+      ends-added weight 1 (stackEnds cells) (endRow noContent (c .content) (c .time) 0),
       ap (λ (j : ℕ). weight (triple j (c .content) (c .time))) same,
       ends-records weight cells,
     )
@@ -245,7 +247,7 @@ unfolding inputAt isOp opCode raiseBy lowerBy raised lowered total pushWrite pus
 complete-pop q t i is room rest [] up down clock ages depth ticks left before can = absurd (false≢true (rw pop-impossible at can))
 complete-pop q t i is room rest (c ∷ cells) up down clock ages depth ticks left before can =
     let age = clock - c .time in
-    let can-go-on = rw (pop-possible c cells 0, pop-after c cells 0) at can in
+    let can-go-on = rw (pop-possible c cells noContent, pop-after c cells noContent) at can in
     let r = rest cells (up + 0) (down + 1) clock (age ∷ ages) (omega arith) (omega arith) (omega arith) (before .1) can-go-on in
     let height = minus-exact q up down (suc (length cells)) (omega arith) (omega arith) in
     record {
@@ -334,10 +336,12 @@ stack-ends-due is due can =
     let t = length is in
     omega (arith, complete (t + 2) t is (omega arith) refl due can .depth, ends-length (stackFinalCells [] 1 is))
 
--- of rows whose operations fit: they are possible, and the filled rows have the same operations
+-- of rows whose operations fit: they are possible, the filled rows have the same operations, and no
+-- more cells are taken off than there are
 record Refilled (cells : List Cell) (clock : ℕ) (ages : List ℕ) (rows : List Row) : Type 0 where
   can : possible Stack (stacked cells) (map inputOf rows) ≡ true
   kept : map (operationOf Stack) (stackOps cells clock ages (map inputOf rows)) ≡ map (operationOf Stack) rows
+  depth : lowered rows ≤ length cells + raised rows
 
 -- what is to be shown of the rows from some point on
 abbrev Refills : List Row → Type 0
@@ -347,41 +351,42 @@ Refills rows =
 
 -- an executed push
 refills-push : (row : Row) (rows : List Row) → Refills rows → Refills (rowAt Push 1 row ∷ rows)
-unfolding rowAt inputOf isOp opCode operationOf allFit fits after impossible inputOperation possible bare filledRow stackAge stackRow stackCells stackClock stackOps stacked cell agesAfter keysAfter
+unfolding rowAt inputOf isOp opCode raiseBy lowerBy raised lowered operationOf allFit fits after impossible inputOperation possible bare filledRow stackAge stackRow stackCells stackClock stackOps stacked cell agesAfter keysAfter
 refills-push row rows rest cells clock ages fit =
     let r = rest (cell (row .value) clock ∷ cells) (clock + 1) ages fit in
-    record { can = r .can; kept = ap {B = List Operation} (λ l. push (row .value) ∷ l) (r .kept) }
+    record { can = r .can; kept = ap {B = List Operation} (λ l. push (row .value) ∷ l) (r .kept); depth = omega (arith, r .depth) }
 
 -- a skipped push
 refills-skipped-push : (row : Row) (rows : List Row) → Refills rows → Refills (rowAt Push 0 row ∷ rows)
-unfolding rowAt inputOf isOp opCode operationOf allFit fits after impossible inputOperation possible bare filledRow stackAge stackRow stackCells stackClock stackOps agesAfter keysAfter
+unfolding rowAt inputOf isOp opCode raiseBy lowerBy raised lowered operationOf allFit fits after impossible inputOperation possible bare filledRow stackAge stackRow stackCells stackClock stackOps agesAfter keysAfter
 refills-skipped-push row rows rest cells clock ages fit =
     let r = rest cells (clock + 0) ages fit in
-    record { can = r .can; kept = ap {B = List Operation} (λ l. skippedPush (row .value) ∷ l) (r .kept) }
+    record { can = r .can; kept = ap {B = List Operation} (λ l. skippedPush (row .value) ∷ l) (r .kept); depth = omega (arith, r .depth) }
 
 -- an executed pop: its old is the content of the top cell
 refills-pop : (row : Row) (rows : List Row) → Refills rows → Refills (rowAt Pop 1 row ∷ rows)
-unfolding rowAt inputOf isOp opCode operationOf allFit inputOperation possible bare filledRow stackAge stackRow stackCells stackClock stackOps agesAfter keysAfter popTime topCell cellAt
+unfolding rowAt inputOf isOp opCode raiseBy lowerBy raised lowered operationOf allFit inputOperation possible bare filledRow stackAge stackRow stackCells stackClock stackOps agesAfter keysAfter popTime topCell cellAt
 refills-pop row rows rest [] clock ages fit = absurd (false≢true (rw (pop-unfit (row .old)) at fit))
 refills-pop row rows rest (c ∷ cells) clock ages fit =
-    let both = and-eq-true-iff (eqb (row .old) (c .content)) _ .0 (rw (pop-top c cells (row .old), pop-after c cells (row .old)) at fit) in
+    let both = and-eq-true-iff (sameContent (row .old) (c .content)) _ .0 (rw (pop-top c cells (row .old), pop-after c cells (row .old)) at fit) in
     let r = rest cells clock ((clock - c .time) ∷ ages) (both .1) in
     record {
-      can = rw (pop-possible c cells 0, pop-after c cells 0) (r .can);
-      kept = ap₂ {C = List Operation} (λ o l. pop o ∷ l) (sym (eqb-true (row .old) (c .content) (both .0))) (r .kept);
+      can = rw (pop-possible c cells noContent, pop-after c cells noContent) (r .can);
+      kept = ap₂ {C = List Operation} (λ o l. pop o ∷ l) (sym (same-content (row .old) (c .content) (both .0))) (r .kept);
+      depth = omega (arith, r .depth);
     }
 
 -- a skipped pop
 refills-skipped-pop : (row : Row) (rows : List Row) → Refills rows → Refills (rowAt Pop 0 row ∷ rows)
-unfolding rowAt inputOf isOp opCode operationOf allFit fits after impossible inputOperation possible bare filledRow stackAge stackRow stackCells stackClock stackOps agesAfter keysAfter popTime
+unfolding rowAt inputOf isOp opCode raiseBy lowerBy raised lowered operationOf allFit fits after impossible inputOperation possible bare filledRow stackAge stackRow stackCells stackClock stackOps agesAfter keysAfter popTime
 refills-skipped-pop row rows rest cells clock ages fit =
     let r = rest cells clock ((clock - (clock - 1)) ∷ ages) fit in
-    record { can = r .can; kept = ap {B = List Operation} (λ l. skippedPop ∷ l) (r .kept) }
+    record { can = r .can; kept = ap {B = List Operation} (λ l. skippedPop ∷ l) (r .kept); depth = omega (arith, r .depth) }
 
 -- all rows from some point on
 refills-from : (rows : List Row) → Ops Stack rows → Refills rows
-unfolding possible stackOps opsDue
-refills-from [] due = λ cells clock ages fit. record { can = refl; kept = refl }
+unfolding possible stackOps opsDue raised lowered
+refills-from [] due = λ cells clock ages fit. record { can = refl; kept = refl; depth = omega arith }
 refills-from (row ∷ rows) due =
     let rest : Refills rows = refills-from rows (due .2) in
     row-cases (λ (r : Row). Refills (r ∷ rows)) Push Pop row
@@ -404,3 +409,9 @@ pub stack-right-operations :
     → map (operationOf Stack) (stackOpRows (map inputOf rows)) ≡ map (operationOf Stack) rows
 unfolding stacked
 stack-right-operations rows due fit = refills-from rows due [] 1 [] fit .kept
+
+-- and with a depth that is not below 0
+pub stack-right-depth :
+    (rows : List Row) → Ops Stack rows → allFit [] (map (operationOf Stack) rows) ≡ true → lowered rows ≤ raised rows
+unfolding stacked
+stack-right-depth rows due fit = omega (arith, refills-from rows due [] 1 [] fit .depth)

@@ -10,6 +10,7 @@ use Rattle.memory.specs.declared.Memory.{Memory}
 use Rattle.memory.specs.declared.Phase.the-variants.{Starting, Operating}
 use Rattle.memory.specs.Bytes.{Line, Fields, named, noFields, fieldsOf, linesOf}
 use Rattle.memory.specs.Names.{fillNames, inputNames, memoryNamed, opNamed}
+use Rattle.memory.specs.Content.{contentOf}
 use Rattle.memory.specs.Rows.{allowed, opsDue}
 use Rattle.memory.specs.File.{headLines, firstLine, Refusal, refusal, namesFault}
 use Rattle.runs.specs.Honest.{Input, filledRows}
@@ -57,7 +58,7 @@ inputFields = 4
 
 -- what the fields of a row line stand for
 unfoldable pub inputRead : Fields → InputLine
-inputRead (named name ns) = sound (record { op = opNamed name; guard = getD ns 0 0; addr = getD ns 1 0; value = getD ns 2 0 })
+inputRead (named name ns) = sound (record { op = opNamed name; guard = getD ns 0 0; addr = getD ns 1 0; value = contentOf (getD ns 2 0) })
 inputRead (noFields f) = faulty f
 
 -- what a row line reads as

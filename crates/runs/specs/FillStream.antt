@@ -11,6 +11,7 @@ use Rattle.memory.specs.declared.Memory.the-variants.{Ram}
 use Rattle.runs.specs.declared.Intake.{Intake}
 use Rattle.memory.specs.Bytes.{Line}
 use Rattle.memory.specs.Names.{fillNames, inputNames, opCode}
+use Rattle.memory.specs.Content.{numberOf}
 use Rattle.memory.specs.File.{namesFault}
 use Rattle.memory.specs.Step.{raise}
 use Rattle.runs.specs.Honest.{Input}
@@ -85,7 +86,7 @@ passRow i = record {
 
 -- row k in the slice of words
 unfoldable pub storedAt : List ℕ → ℕ → Input → List ℕ
-storedAt ws k x = sets ws (4 * k) (opCode (x .op) ∷ x .guard ∷ x .addr ∷ x .value ∷ [])
+storedAt ws k x = sets ws (4 * k) (opCode (x .op) ∷ x .guard ∷ x .addr ∷ numberOf (x .value) ∷ [])
 
 -- a row that is due: it is stored, or its fault is the refusal
 unfoldable pub inputTaken : ℕ → Gathered → InputLine → Gathered

@@ -14,6 +14,7 @@ use Rattle.memory.specs.declared.Phase.the-variants.{Starting, Operating}
 use Rattle.memory.specs.declared.Row.{Row}
 use Rattle.memory.specs.Bytes.{allBelow}
 use Rattle.memory.specs.Names.{opCode, opCoded}
+use Rattle.memory.specs.Content.{Content, contentOf, numberOf}
 use Rattle.memory.specs.Rows.{allowed, opsDue, opIn, formed}
 use Rattle.runs.specs.Plain.{start, after}
 use Rattle.runs.specs.Honest.{Input, bare, filledRows, impossible, inputOperation}
@@ -36,17 +37,17 @@ inputsIn [] = []
 inputsIn (o ∷ []) = []
 inputsIn (o ∷ g ∷ []) = []
 inputsIn (o ∷ g ∷ a ∷ []) = []
-inputsIn (o ∷ g ∷ a ∷ v ∷ rest) = record { op = opCoded o; guard = g; addr = a; value = v } ∷ inputsIn rest
+inputsIn (o ∷ g ∷ a ∷ v ∷ rest) = record { op = opCoded o; guard = g; addr = a; value = contentOf v } ∷ inputsIn rest
 
 unfoldable pub inputNumbers : List Input → List ℕ
 inputNumbers [] = []
-inputNumbers (i ∷ is) = opCode (i .op) ∷ i .guard ∷ i .addr ∷ i .value ∷ inputNumbers is
+inputNumbers (i ∷ is) = opCode (i .op) ∷ i .guard ∷ i .addr ∷ numberOf (i .value) ∷ inputNumbers is
 
 -- the slice of output rows
 unfoldable pub rowNumbers : List Row → List ℕ
 rowNumbers [] = []
 rowNumbers (row ∷ rows) =
-    opCode (row .op) ∷ row .guard ∷ row .addr ∷ row .value ∷ row .old ∷ row .time ∷ row .version ∷ rowNumbers rows
+    opCode (row .op) ∷ row .guard ∷ row .addr ∷ numberOf (row .value) ∷ numberOf (row .old) ∷ row .time ∷ row .version ∷ rowNumbers rows
 
 -- "It wants room for 2n + 3T output rows and 2n + 3T scratch words."
 unfoldable pub room : ℕ → ℕ → ℕ
@@ -55,12 +56,12 @@ room n t = 2 * n + 3 * t
 -- the fault of an input row by its form: 3, 5, 6
 unfoldable pub inputFault : ℕ → Memory → List Op → Input → ℕ
 inputFault q m ops i =
-    cond (allBelow q (i .guard ∷ i .addr ∷ i .value ∷ []))
+    cond (allBelow q (i .guard ∷ i .addr ∷ numberOf (i .value) ∷ []))
     (cond (opIn (i .op) ops) (cond (formed m (bare i)) 0 6) 5)
     3
 
 -- "then each row 3, 5, 6, 11, 12, 13": an operation over the plain memory's content
-unfoldable pub operationFault : ℕ → Memory → List ℕ → Input → ℕ
+unfoldable pub operationFault : ℕ → Memory → List Content → Input → ℕ
 operationFault q m content i =
     cond (eqb (inputFault q m (opsDue m Operating) i) 0) (impossible content (inputOperation m i))
     (inputFault q m (opsDue m Operating) i)
@@ -74,14 +75,14 @@ unfoldable pub placed : ℕ → ℕ → Placed
 placed f k = record { number = f; place = k }
 
 -- the first fault of the operations, the first of which is row k
-unfoldable pub operationsFault : ℕ → Memory → List ℕ → ℕ → List Input → Placed
+unfoldable pub operationsFault : ℕ → Memory → List Content → ℕ → List Input → Placed
 operationsFault q m content k [] = placed 0 0
 operationsFault q m content k (i ∷ is) =
     let rest = operationsFault q m (after content (inputOperation m i)) (suc k) is in
     cond (eqb (operationFault q m content i) 0) rest (placed (operationFault q m content i) k)
 
 -- the first fault of the init rows, the first of which is row k, and else of the operations: "place its number from 1"
-unfoldable pub rowsFault : ℕ → Memory → List ℕ → ℕ → List Input → List Input → Placed
+unfoldable pub rowsFault : ℕ → Memory → List Content → ℕ → List Input → List Input → Placed
 rowsFault q m values k [] ops = operationsFault q m (start m values) k ops
 rowsFault q m values k (i ∷ is) ops =
     let rest = rowsFault q m values (suc k) is ops in

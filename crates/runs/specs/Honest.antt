@@ -11,6 +11,7 @@ use Rattle.memory.specs.declared.Op.{Op}
 use Rattle.memory.specs.declared.Op.the-variants.{Push, Enqueue, End, Range}
 use Rattle.memory.specs.declared.Row.{Row}
 use Rattle.memory.specs.Names.{isOp}
+use Rattle.memory.specs.Content.{Content, noContent, numberOf}
 use Rattle.memory.specs.Rows.{initRows, operationRows}
 use Rattle.runs.specs.Plain.{Operation, store, load, look, member, push, skippedPush, enqueue, skippedEnqueue, pop, skippedPop, dequeue, skippedDequeue, after, among, holds, operationOf}
 
@@ -19,7 +20,7 @@ pub record Input : Type 0 where
   pub op : Op
   pub guard : ℕ
   pub addr : ℕ
-  pub value : ℕ
+  pub value : Content
 
 -- what a row of the file takes from the filler's input
 unfoldable pub inputOf : Row → Input
@@ -33,18 +34,18 @@ abbrev pub operationInputs : ℕ → ℕ → List Row → List Input
 operationInputs n t rows = map inputOf (operationRows n t rows)
 
 -- "Op, guard, addr and value are copied": the row of an input with its advice
-unfoldable pub filledRow : Input → ℕ → ℕ → ℕ → Row
+unfoldable pub filledRow : Input → Content → ℕ → ℕ → Row
 filledRow i o t v = record { op = i .op; guard = i .guard; addr = i .addr; value = i .value; old = o; time = t; version = v }
 
 unfoldable pub bare : Input → Row
-bare i = filledRow i 0 0 0
+bare i = filledRow i noContent 0 0
 
 -- an end row and a range row
-unfoldable pub endRow : ℕ → ℕ → ℕ → ℕ → Row
+unfoldable pub endRow : Content → Content → ℕ → ℕ → Row
 endRow value o t v = record { op = End; guard = 0; addr = 0; value = value; old = o; time = t; version = v }
 
 unfoldable pub rangeRow : ℕ → Row
-rangeRow v = record { op = Range; guard = 0; addr = 0; value = 0; old = 0; time = 0; version = v }
+rangeRow v = record { op = Range; guard = 0; addr = 0; value = noContent; old = noContent; time = 0; version = v }
 
 -- how often x occurs: "version is the number of earlier lookups of the same key", the keys of the earlier lookups in a list
 unfoldable pub occurrences : ℕ → List ℕ → ℕ
@@ -58,14 +59,14 @@ rangeRowsFrom i (suc t) ages = rangeRow (occurrences i ages) ∷ rangeRowsFrom (
 
 -- A cell: its content, and "the clock of its last write (a load writes too), 0 from init"
 pub record Cell : Type 0 where
-  pub content : ℕ
+  pub content : Content
   pub time : ℕ
 
-unfoldable pub cell : ℕ → ℕ → Cell
+unfoldable pub cell : Content → ℕ → Cell
 cell v t = record { content = v; time = t }
 
 unfoldable pub cellAt : List Cell → ℕ → Cell
-cellAt cells i = getD cells i (cell 0 0)
+cellAt cells i = getD cells i (cell noContent 0)
 
 -- ram. "old is the content of the cell read, time the clock of its last write": an access at a clock, over the ages looked up before it
 unfoldable pub ramAge : List Cell → ℕ → Input → ℕ
@@ -79,7 +80,7 @@ unfoldable pub ramCells : List Cell → ℕ → Input → List Cell
 ramCells cells clock i = set cells (i .addr) (cell (cond (eqb (i .guard) 1) (i .value) (cellAt cells (i .addr) .content)) clock)
 
 unfoldable pub ramEnds : List Cell → List Row
-ramEnds cells = map (λ c. endRow 0 (c .content) (c .time) 0) cells
+ramEnds cells = map (λ c. endRow noContent (c .content) (c .time) 0) cells
 
 -- the operations from a clock on, then the end rows and the range rows
 unfoldable pub ramFrom : List Cell → ℕ → List ℕ → ℕ → List Input → List Row
@@ -88,24 +89,24 @@ ramFrom cells clock ages t (i ∷ is) =
     ramRow cells clock ages i ∷ ramFrom (ramCells cells clock i) (suc clock) (ramAge cells clock i ∷ ages) t is
 
 -- rom. The keys are the addresses; "end values restate init"
-unfoldable pub romEndsFrom : ℕ → List ℕ → List ℕ → List Row
+unfoldable pub romEndsFrom : ℕ → List Content → List ℕ → List Row
 romEndsFrom k [] keys = []
-romEndsFrom k (v ∷ vs) keys = endRow v 0 0 (occurrences k keys) ∷ romEndsFrom (suc k) vs keys
+romEndsFrom k (v ∷ vs) keys = endRow v noContent 0 (occurrences k keys) ∷ romEndsFrom (suc k) vs keys
 
-unfoldable pub romFrom : List ℕ → List ℕ → List Input → List Row
+unfoldable pub romFrom : List Content → List ℕ → List Input → List Row
 romFrom cells keys [] = romEndsFrom 0 cells keys
 romFrom cells keys (i ∷ is) =
-    filledRow i (getD cells (i .addr) 0) 0 (occurrences (i .addr) keys) ∷ romFrom cells (i .addr ∷ keys) is
+    filledRow i (getD cells (i .addr) noContent) 0 (occurrences (i .addr) keys) ∷ romFrom cells (i .addr ∷ keys) is
 
 -- set. The keys are the values; "equal set elements give all lookups to the first": `earlier` are the elements before
-unfoldable pub setEndsFrom : List ℕ → List ℕ → List ℕ → List Row
+unfoldable pub setEndsFrom : List Content → List Content → List ℕ → List Row
 setEndsFrom earlier [] keys = []
 setEndsFrom earlier (v ∷ vs) keys =
-    endRow v 0 0 (cond (among v earlier) 0 (occurrences v keys)) ∷ setEndsFrom (v ∷ earlier) vs keys
+    endRow v noContent 0 (cond (among (numberOf v) earlier) 0 (occurrences (numberOf v) keys)) ∷ setEndsFrom (v ∷ earlier) vs keys
 
-unfoldable pub setFrom : List ℕ → List ℕ → List Input → List Row
+unfoldable pub setFrom : List Content → List ℕ → List Input → List Row
 setFrom elements keys [] = setEndsFrom [] elements keys
-setFrom elements keys (i ∷ is) = filledRow i 0 0 (occurrences (i .value) keys) ∷ setFrom elements (i .value ∷ keys) is
+setFrom elements keys (i ∷ is) = filledRow i noContent 0 (occurrences (numberOf (i .value)) keys) ∷ setFrom elements (numberOf (i .value) ∷ keys) is
 
 -- stack. The cells from the top down; the clock is 1 and rises with each executed push. "A skipped pop gets old 0 and time clock − 1"
 unfoldable pub topCell : List Cell → Cell
@@ -113,14 +114,14 @@ topCell cells = cellAt cells 0
 
 unfoldable pub stackEnds : List Cell → List Row
 stackEnds [] = []
-stackEnds (c ∷ cells) = stackEnds cells ++ endRow 0 (c .content) (c .time) 0 ∷ []
+stackEnds (c ∷ cells) = stackEnds cells ++ endRow noContent (c .content) (c .time) 0 ∷ []
 
 unfoldable pub popTime : List Cell → ℕ → Input → ℕ
 popTime cells clock i = cond (eqb (i .guard) 1) (topCell cells .time) (clock - 1)
 
 unfoldable pub popRow : List Cell → ℕ → List ℕ → Input → Row
 popRow cells clock ages i =
-    filledRow i (cond (eqb (i .guard) 1) (topCell cells .content) 0) (popTime cells clock i) (occurrences (clock - popTime cells clock i) ages)
+    filledRow i (cond (eqb (i .guard) 1) (topCell cells .content) noContent) (popTime cells clock i) (occurrences (clock - popTime cells clock i) ages)
 
 unfoldable pub stackFrom : List Cell → ℕ → List ℕ → ℕ → List Input → List Row
 stackFrom cells clock ages t [] = stackEnds cells ++ rangeRowsFrom 1 t ages
@@ -132,16 +133,16 @@ stackFrom cells clock ages t (i ∷ is) =
     ∷ stackFrom (cond (eqb (i .guard) 1) (drop 1 cells) cells) clock ((clock - popTime cells clock i) ∷ ages) t is)
 
 -- queue. The elements from the front; "a skipped dequeue old 0"
-unfoldable pub queueFrom : List ℕ → List Input → List Row
-queueFrom content [] = map (λ v. endRow 0 v 0 0) content
+unfoldable pub queueFrom : List Content → List Input → List Row
+queueFrom content [] = map (λ v. endRow noContent v 0 0) content
 queueFrom content (i ∷ is) =
     cond (isOp (i .op) Enqueue)
     (bare i ∷ queueFrom (cond (eqb (i .guard) 1) (content ++ i .value ∷ []) content) is)
-    (filledRow i (cond (eqb (i .guard) 1) (getD content 0 0) 0) 0 0
+    (filledRow i (cond (eqb (i .guard) 1) (getD content 0 noContent) noContent) 0 0
     ∷ queueFrom (cond (eqb (i .guard) 1) (drop 1 content) content) is)
 
 -- the rows after the init rows, by the init values and the operations
-unfoldable pub operationsFilled : Memory → ℕ → List ℕ → List Input → List Row
+unfoldable pub operationsFilled : Memory → ℕ → List Content → List Input → List Row
 operationsFilled Ram t inits ops = ramFrom (map (λ v. cell v 0) inits) 1 [] t ops
 operationsFilled Rom t inits ops = romFrom inits [] ops
 operationsFilled Set t inits ops = setFrom inits [] ops
@@ -157,7 +158,7 @@ abbrev pub refilledRows : Memory → ℕ → ℕ → List Row → List Row
 refilledRows m n t rows = filledRows m t (initInputs n rows) (operationInputs n t rows)
 
 -- what makes an operation impossible, or 0. 11: "addr ≥ size"; 12: "executed pop or dequeue on empty"; 13: "value not in the set"
-unfoldable pub impossible : List ℕ → Operation → ℕ
+unfoldable pub impossible : List Content → Operation → ℕ
 impossible content (store addr value) = cond (ltb addr (length content)) 0 11
 impossible content (load addr value old) = cond (ltb addr (length content)) 0 11
 impossible content (look addr old) = cond (ltb addr (length content)) 0 11
@@ -176,7 +177,7 @@ unfoldable pub inputOperation : Memory → Input → Operation
 inputOperation m i = operationOf m (bare i)
 
 -- every operation of a run is possible
-unfoldable pub possible : Memory → List ℕ → List Input → Bool
+unfoldable pub possible : Memory → List Content → List Input → Bool
 possible m content [] = true
 possible m content (i ∷ is) =
     eqb (impossible content (inputOperation m i)) 0 && possible m (after content (inputOperation m i)) is

@@ -10,28 +10,29 @@ use Rattle.memory.specs.declared.Memory.the-variants.{Ram, Rom, Set, Stack, Que
 use Rattle.memory.specs.declared.Op.the-variants.{Push, Enqueue}
 use Rattle.memory.specs.declared.Row.{Row}
 use Rattle.memory.specs.Names.{isOp}
+use Rattle.memory.specs.Content.{Content, noContent, sameContent, numberOf}
 use Rattle.memory.specs.Rows.{initRows, operationRows}
 
 -- An operation as the trace has it: "every operation's op, guard, addr and value, and the old of loads, looks and executed pops and dequeues".
 -- It cannot hold advice.
 pub data Operation : Type 0 where
   -- access under guard 1: addr, value
-  store : ℕ → ℕ → Operation
+  store : ℕ → Content → Operation
   -- access under guard 0: addr, value, old
-  load : ℕ → ℕ → ℕ → Operation
+  load : ℕ → Content → Content → Operation
   -- look: addr, old
-  look : ℕ → ℕ → Operation
+  look : ℕ → Content → Operation
   -- member: value
   member : ℕ → Operation
   -- push and enqueue: value; the skipped ones
-  push : ℕ → Operation
-  skippedPush : ℕ → Operation
-  enqueue : ℕ → Operation
-  skippedEnqueue : ℕ → Operation
+  push : Content → Operation
+  skippedPush : Content → Operation
+  enqueue : Content → Operation
+  skippedEnqueue : Content → Operation
   -- pop and dequeue: old; the skipped ones
-  pop : ℕ → Operation
+  pop : Content → Operation
   skippedPop : Operation
-  dequeue : ℕ → Operation
+  dequeue : Content → Operation
   skippedDequeue : Operation
 
 -- "The trace is the memory, n, T, the init values, every operation's op, guard, addr and value, and the old of loads, looks and executed pops and dequeues."
@@ -39,45 +40,45 @@ pub record Trace : Type 0 where
   pub memory : Memory
   pub size : ℕ
   pub count : ℕ
-  pub inits : List ℕ
+  pub inits : List Content
   pub operations : List Operation
 
 -- "Ram and rom start as n cells with the init values, a set as those values, stack and queue as an empty list."
-unfoldable pub start : Memory → List ℕ → List ℕ
+unfoldable pub start : Memory → List Content → List Content
 start Ram inits = inits
 start Rom inits = inits
 start Set inits = inits
 start Stack inits = []
 start Queue inits = []
 
--- x is among the values of a list
-unfoldable pub among : ℕ → List ℕ → Bool
+-- a number is among the elements of a set, each a content of one number
+unfoldable pub among : ℕ → List Content → Bool
 among x [] = false
-among x (y ∷ ys) = eqb x y || among x ys
+among x (y ∷ ys) = eqb x (numberOf y) || among x ys
 
 -- a list without its last entry, and the last entry
-unfoldable pub front : List ℕ → List ℕ
+unfoldable pub front : List Content → List Content
 front [] = []
 front (x ∷ []) = []
 front (x ∷ y ∷ ys) = x ∷ front (y ∷ ys)
 
-unfoldable pub back : List ℕ → ℕ
-back [] = 0
+unfoldable pub back : List Content → Content
+back [] = noContent
 back (x ∷ []) = x
 back (x ∷ y ∷ ys) = back (y ∷ ys)
 
-unfoldable pub holds : List ℕ → Bool
+unfoldable pub holds : List Content → Bool
 holds [] = false
 holds (x ∷ xs) = true
 
 -- "Each operation fits or not"
-unfoldable pub fits : List ℕ → Operation → Bool
+unfoldable pub fits : List Content → Operation → Bool
 -- "with addr ≥ n it does not fit", "guard 1 fits"
 fits content (store addr value) = ltb addr (length content)
 -- "guard 0 fits if old is the cell's content"
-fits content (load addr value old) = ltb addr (length content) && eqb old (getD content addr 0)
+fits content (load addr value old) = ltb addr (length content) && sameContent old (getD content addr noContent)
 -- "look fits if addr < n and old is the cell's content"
-fits content (look addr old) = ltb addr (length content) && eqb old (getD content addr 0)
+fits content (look addr old) = ltb addr (length content) && sameContent old (getD content addr noContent)
 -- "member if value is in the set"
 fits content (member value) = among value content
 -- "push, enqueue: fit"
@@ -86,14 +87,14 @@ fits content (skippedPush value) = true
 fits content (enqueue value) = true
 fits content (skippedEnqueue value) = true
 -- "Guard 1 on an empty list does not fit", "otherwise it takes off the back for pop, the front for dequeue, and fits if old is what it took"
-fits content (pop old) = holds content && eqb old (back content)
-fits content (dequeue old) = holds content && eqb old (getD content 0 0)
+fits content (pop old) = holds content && sameContent old (back content)
+fits content (dequeue old) = holds content && sameContent old (getD content 0 noContent)
 -- "guard 0 fits and changes nothing"
 fits content skippedPop = true
 fits content skippedDequeue = true
 
 -- the content after an operation
-unfoldable pub after : List ℕ → Operation → List ℕ
+unfoldable pub after : List Content → Operation → List Content
 -- "with addr ≥ n it … changes nothing", "guard 1 … puts value there"
 after content (store addr value) = set content addr value
 after content (load addr value old) = content
@@ -110,7 +111,7 @@ after content (dequeue old) = drop 1 content
 after content skippedPop = content
 after content skippedDequeue = content
 
-unfoldable pub allFit : List ℕ → List Operation → Bool
+unfoldable pub allFit : List Content → List Operation → Bool
 allFit content [] = true
 allFit content (o ∷ os) = fits content o && allFit (after content o) os
 
@@ -122,7 +123,7 @@ right t = allFit (start (t .memory) (t .inits)) (t .operations)
 unfoldable pub operationOf : Memory → Row → Operation
 operationOf Ram row = cond (eqb (row .guard) 1) (store (row .addr) (row .value)) (load (row .addr) (row .value) (row .old))
 operationOf Rom row = look (row .addr) (row .old)
-operationOf Set row = member (row .value)
+operationOf Set row = member (numberOf (row .value))
 operationOf Stack row =
     cond (isOp (row .op) Push) (cond (eqb (row .guard) 1) (push (row .value)) (skippedPush (row .value)))
     (cond (eqb (row .guard) 1) (pop (row .old)) skippedPop)
