@@ -1,7 +1,6 @@
 -- Lookups counted in scratch words, and the range rows and end rows that the counts give.
 --     occurrences-few     a key occurs at most as often as there are keys
---     counted-same, counted-other    a slot after a lookup
---     counts-turn     the counts after a lookup are those of one key more
+--     read-turn, counts-turn     the counts after a lookup are those of one key more
 --     ranges-are      counts of every age give the range rows
 -- Assumes nothing.
 use Prim.Native.Nat.{ℕ, zero, suc, _+_, _≤_, _<_}
@@ -11,7 +10,7 @@ use mathlib.Core.Bool.{Bool, true, false, cond}
 use mathlib.Core.Path.{_≡_, refl, sym, ap, _∙_}
 use mathlib.Core.List.{List, [], _∷_}
 use lib.Dec.{eqb}
-use lib.ListN.{length, getD}
+use lib.ListN.{length, getD, set}
 use lib.Seq.{getD-set-same, getD-set-other}
 use borrow.Author.Tests.{eq-eqb, ne-eqb}
 use Rattle.runs.specs.Honest.{occurrences, rangeRow, rangeRowsFrom}
@@ -35,23 +34,36 @@ pub occurrences-other : (x y : ℕ) (keys : List ℕ) → (x ≡ y → ⊥) → 
 unfolding occurrences
 occurrences-other x y keys n = ap (λ (b : Bool). cond b 1 0 + occurrences x keys) (ne-eqb x y n) ∙ omega arith
 
--- counts of keys from word b on, of n slots: slot j counts the key f j, and no other slot does
+-- Counts of keys in n slots: slot j, the word at `place j`, counts the key f j, and no other slot
+-- does. `read` is the count that a word tells, and `more` is a word with one lookup more.
+module _ (read more : ℕ → ℕ) (one : (x : ℕ) → read (more x) ≡ read x + 1) (place : ℕ → ℕ) (apart : (i j : ℕ) → place i ≡ place j → i ≡ j) where
+  pub read-turn : (s : List ℕ) (n : ℕ) (f : ℕ → ℕ) (keys : List ℕ) (key slot : ℕ)
+      → ((j : ℕ) → j < n → read (getD s (place j) 0) ≡ occurrences (f j) keys) → place slot < length s → slot < n → f slot ≡ key → ((j : ℕ) → f j ≡ key → j ≡ slot)
+      → (j : ℕ) → j < n → read (getD (set s (place slot) (more (getD s (place slot) 0))) (place j) 0) ≡ occurrences (f j) (key ∷ keys)
+  read-turn s n f keys key slot counts room inside is only j h = go (ℕ-discrete j slot)
+    where
+      s′ : List ℕ
+      s′ = set s (place slot) (more (getD s (place slot) 0))
+
+      go : Dec (j ≡ slot) → read (getD s′ (place j) 0) ≡ occurrences (f j) (key ∷ keys)
+      go (yes e) =
+          ap (λ (i : ℕ). read (getD s′ (place i) 0)) e
+          ∙ ap read (getD-set-same s (place slot) (more (getD s (place slot) 0)) 0 room)
+          ∙ one (getD s (place slot) 0)
+          ∙ ap (λ (x : ℕ). x + 1) (counts slot inside)
+          ∙ sym (occurrences-same (f slot) key keys is)
+          ∙ ap (λ (i : ℕ). occurrences (f i) (key ∷ keys)) (sym e)
+      go (no n) =
+          ap read (getD-set-other s (place slot) (place j) (more (getD s (place slot) 0)) 0 (λ e. n (apart j slot e)))
+          ∙ counts j h
+          ∙ sym (occurrences-other (f j) key keys (λ e. n (only j e)))
+
+-- a word from b on that is its count
 pub counts-turn : (s : List ℕ) (b n : ℕ) (f : ℕ → ℕ) (keys : List ℕ) (key slot : ℕ)
     → ((j : ℕ) → j < n → getD s (b + j) 0 ≡ occurrences (f j) keys) → b + n ≤ length s → slot < n → f slot ≡ key → ((j : ℕ) → f j ≡ key → j ≡ slot)
     → (j : ℕ) → j < n → getD (counted s (b + slot)) (b + j) 0 ≡ occurrences (f j) (key ∷ keys)
-counts-turn s b n f keys key slot counts room inside is only j h = go (ℕ-discrete j slot)
-  where
-    go : Dec (j ≡ slot) → getD (counted s (b + slot)) (b + j) 0 ≡ occurrences (f j) (key ∷ keys)
-    go (yes e) =
-        ap (λ (i : ℕ). getD (counted s (b + slot)) (b + i) 0) e
-        ∙ getD-set-same s (b + slot) (getD s (b + slot) 0 + 1) 0 (omega arith)
-        ∙ ap (λ (x : ℕ). x + 1) (counts slot inside)
-        ∙ sym (occurrences-same (f slot) key keys is)
-        ∙ ap (λ (i : ℕ). occurrences (f i) (key ∷ keys)) (sym e)
-    go (no n) =
-        getD-set-other s (b + slot) (b + j) (getD s (b + slot) 0 + 1) 0 (λ e. n (omega arith))
-        ∙ counts j h
-        ∙ sym (occurrences-other (f j) key keys (λ e. n (only j e)))
+counts-turn s b n f keys key slot counts room inside =
+    read-turn (λ x. x) (λ x. x + 1) (λ x. refl) (λ j. b + j) (λ i j e. omega arith) s n f keys key slot counts (omega arith) inside
 
 -- counts of the ages from 1 on
 pub ranges-are : (s : List ℕ) (b t a c : ℕ) (ages : List ℕ) → ((j : ℕ) → j < t → getD s (b + j) 0 ≡ occurrences (suc j) ages) → a + c ≤ t

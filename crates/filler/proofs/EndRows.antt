@@ -13,6 +13,8 @@ use Rattle.runs.specs.Honest.{endRow, rangeRow}
 use Rattle.runs.specs.Filler.{rowNumbers}
 use Rattle.filler.specs.declared.steps.Cursor.{Cursor}
 use Rattle.words.specs.Inputs.{valueAt}
+use Rattle.words.specs.Cells.{timeIn, contentIn}
+use Rattle.words.specs.Counts.{lookupsIn}
 use Rattle.index.specs.Values.{valuesIn}
 use Rattle.layout.specs.Laid.{laid}
 use Rattle.filler.specs.Ends.{cellEnds, valueEnds, ranges, ending, EndingFits}
@@ -35,14 +37,16 @@ less-by-one c i h = omega arith
 one-later : (j i : ℕ) → suc (j + i) ≡ j + (i + 1)
 one-later j i = omega arith
 
-pub cells-turn : (w j c i : ℕ) (s out : List ℕ) → i < c → 7 * c ≤ length out
-    → laid out (7 * i) (cellEnds w (j + i) (c - i) s)
-    ≡ laid (sets out (7 * i) (8 ∷ 0 ∷ 0 ∷ 0 ∷ getD s (j + i) 0 ∷ getD s (w + (j + i)) 0 ∷ 0 ∷ [])) (7 * (i + 1)) (cellEnds w (j + (i + 1)) (c - (i + 1)) s)
+pub cells-turn : (inits ops : List ℕ) (j c i : ℕ) (s out : List ℕ) → i < c → 7 * c ≤ length out
+    → laid out (7 * i) (cellEnds inits ops (j + i) (c - i) s)
+    ≡ laid (sets out (7 * i) (8 ∷ 0 ∷ 0 ∷ 0 ∷ contentIn inits ops (j + i) (getD s (j + i) 0) ∷ timeIn (getD s (j + i) 0) ∷ 0 ∷ [])) (7 * (i + 1)) (cellEnds inits ops (j + (i + 1)) (c - (i + 1)) s)
 unfolding cellEnds
-cells-turn w j c i s out h room =
-    ap (λ (n : ℕ). laid out (7 * i) (cellEnds w (j + i) n s)) (less-by-one c i h)
-    ∙ laid-put out i _ _ _ (end-words 0 (getD s (j + i) 0) (getD s (w + (j + i)) 0) 0) (omega arith)
-    ∙ ap (λ (n : ℕ). laid (sets out (7 * i) (8 ∷ 0 ∷ 0 ∷ 0 ∷ getD s (j + i) 0 ∷ getD s (w + (j + i)) 0 ∷ 0 ∷ [])) (7 * (i + 1)) (cellEnds w n (c - (i + 1)) s)) (one-later j i)
+cells-turn inits ops j c i s out h room =
+    let content : ℕ = contentIn inits ops (j + i) (getD s (j + i) 0) in
+    let time : ℕ = timeIn (getD s (j + i) 0) in
+    ap (λ (n : ℕ). laid out (7 * i) (cellEnds inits ops (j + i) n s)) (less-by-one c i h)
+    ∙ laid-put out i _ _ _ (end-words 0 content time 0) (omega arith)
+    ∙ ap (λ (n : ℕ). laid (sets out (7 * i) (8 ∷ 0 ∷ 0 ∷ 0 ∷ content ∷ time ∷ 0 ∷ [])) (7 * (i + 1)) (cellEnds inits ops n (c - (i + 1)) s)) (one-later j i)
 
 pub ranges-turn : (j c i : ℕ) (s out : List ℕ) → i < c → 7 * c ≤ length out
     → laid out (7 * i) (ranges (j + i) (c - i) s)
@@ -53,19 +57,18 @@ ranges-turn j c i s out h room =
     ∙ laid-put out i _ _ _ (range-words (getD s (j + i) 0)) (omega arith)
     ∙ ap (λ (n : ℕ). laid (sets out (7 * i) (9 ∷ 0 ∷ 0 ∷ 0 ∷ 0 ∷ 0 ∷ getD s (j + i) 0 ∷ [])) (7 * (i + 1)) (ranges n (c - (i + 1)) s)) (one-later j i)
 
-pub values-turn : (j i : ℕ) (inits s out : List ℕ) → 4 * i + 4 ≤ length inits → 7 * i + 7 ≤ length out
-    → laid out (7 * i) (valueEnds (j + i) (drop i (valuesIn inits)) s)
-    ≡ laid (sets out (7 * i) (8 ∷ 0 ∷ 0 ∷ valueAt inits i ∷ 0 ∷ 0 ∷ getD s (j + i) 0 ∷ [])) (7 * (i + 1)) (valueEnds (j + (i + 1)) (drop (suc i) (valuesIn inits)) s)
+pub values-turn : (i : ℕ) (inits s out : List ℕ) → 4 * i + 4 ≤ length inits → 7 * i + 7 ≤ length out
+    → laid out (7 * i) (valueEnds i (drop i (valuesIn inits)) s)
+    ≡ laid (sets out (7 * i) (8 ∷ 0 ∷ 0 ∷ valueAt inits i ∷ 0 ∷ 0 ∷ lookupsIn (getD s i 0) ∷ [])) (7 * (i + 1)) (valueEnds (suc i) (drop (suc i) (valuesIn inits)) s)
 unfolding valueEnds
-values-turn j i inits s out h room =
-    ap (λ (vs : List ℕ). laid out (7 * i) (valueEnds (j + i) vs s)) (values-cons inits i h)
-    ∙ laid-put out i _ _ _ (end-words (valueAt inits i) 0 0 (getD s (j + i) 0)) room
-    ∙ ap (λ (n : ℕ). laid (sets out (7 * i) (8 ∷ 0 ∷ 0 ∷ valueAt inits i ∷ 0 ∷ 0 ∷ getD s (j + i) 0 ∷ [])) (7 * (i + 1)) (valueEnds n (drop (suc i) (valuesIn inits)) s)) (one-later j i)
+values-turn i inits s out h room =
+    ap (λ (vs : List ℕ). laid out (7 * i) (valueEnds i vs s)) (values-cons inits i h)
+    ∙ laid-put out i _ _ _ (end-words (valueAt inits i) 0 0 (lookupsIn (getD s i 0))) room
 
-pub cells-count : (w j c : ℕ) (s : List ℕ) → length (cellEnds w j c s) ≡ c
+pub cells-count : (inits ops : List ℕ) (j c : ℕ) (s : List ℕ) → length (cellEnds inits ops j c s) ≡ c
 unfolding cellEnds
-cells-count w j zero s = refl
-cells-count w j (suc c) s = ap suc (cells-count w (suc j) c s)
+cells-count inits ops j zero s = refl
+cells-count inits ops j (suc c) s = ap suc (cells-count inits ops (suc j) c s)
 
 pub ranges-count : (j t : ℕ) (s : List ℕ) → length (ranges j t s) ≡ t
 unfolding ranges
@@ -78,10 +81,10 @@ values-ends-count j [] s = refl
 values-ends-count j (v ∷ vs) s = ap suc (values-ends-count (suc j) vs s)
 
 -- the rows after the operations have room
-pub ending-room : (m : Memory) (w t : ℕ) (at : Cursor) (inits s out : List ℕ) → EndingFits m w t at inits s out → 7 * length (ending m w t at inits s) ≤ length out
+pub ending-room : (m : Memory) (w t : ℕ) (at : Cursor) (inits ops s out : List ℕ) → EndingFits m w t at inits s out → 7 * length (ending m w t at inits ops s) ≤ length out
 unfolding ending
-ending-room Ram w t at inits s out f = omega (arith, length-append (cellEnds w 0 w s) (ranges (2 * w) t s), cells-count w 0 w s, ranges-count (2 * w) t s, f .room)
-ending-room Rom w t at inits s out f = omega (arith, values-ends-count w (valuesIn inits) s, values-count inits w (f .count), f .room)
-ending-room Set w t at inits s out f = omega (arith, values-ends-count w (valuesIn inits) s, values-count inits w (f .count), f .room)
-ending-room Stack w t at inits s out f = omega (arith, length-append (cellEnds w 0 (at .tail) s) (ranges (2 * w) t s), cells-count w 0 (at .tail) s, ranges-count (2 * w) t s, f .room)
-ending-room Queue w t at inits s out f = omega (arith, cells-count w (at .head) (at .tail - at .head) s, f .within, f .room)
+ending-room Ram w t at inits ops s out f = omega (arith, length-append (cellEnds inits ops 0 w s) (ranges w t s), cells-count inits ops 0 w s, ranges-count w t s, f .room)
+ending-room Rom w t at inits ops s out f = omega (arith, values-ends-count 0 (valuesIn inits) s, values-count inits w (f .count), f .room)
+ending-room Set w t at inits ops s out f = omega (arith, values-ends-count 0 (valuesIn inits) s, values-count inits w (f .count), f .room)
+ending-room Stack w t at inits ops s out f = omega (arith, length-append (cellEnds inits ops 0 (at .tail) s) (ranges w t s), cells-count inits ops 0 (at .tail) s, ranges-count w t s, f .room)
+ending-room Queue w t at inits ops s out f = omega (arith, cells-count inits ops (at .head) (at .tail - at .head) s, f .within, f .room)

@@ -1,10 +1,12 @@
 pub mod Inputs
 pub mod EndRows
+pub mod Span
 pub mod Members
 pub mod Tree
 pub mod Forms
 pub mod Onward
 pub mod Counts
+pub mod Lies
 pub mod RomRun
 pub mod QueueRun
 pub mod RamRun

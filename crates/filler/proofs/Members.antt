@@ -1,17 +1,20 @@
 -- The place of the first equal element of a list.
 --     first-at        the element there is the one sought
 --     first-low       no place before it holds the element sought
---     tree-is, tree-finds     a set's search tree is the one grown over all elements, and finds that place
+--     tree-finds      the links of a set's words find that place
 -- Assumes nothing.
 use Prim.Native.Nat.{ℕ, zero, suc, _≤_, _<_}
 use native.Mathlib.Omega.{arith}
 use native.Mathlib.Decide.{ℕ-discrete}
 use mathlib.Core.Path.{_≡_, sym, ap, _∙_}
 use mathlib.Core.List.{List, [], _∷_}
-use lib.ListN.{length, getD, replicate}
+use lib.ListN.{length, getD, take, replicate}
+use lib.Seq.{getD-take}
 use Rattle.index.specs.Values.{valuesIn, firstAt}
+use Rattle.words.specs.Counts.{linksIn}
 use Rattle.index.specs.Tree.{found, grown}
 use Rattle.index.proofs.Places.{first-here, first-later}
+use Rattle.index.proofs.Links.{found-linked}
 use Rattle.index.proofs.Search.{search-finds-first}
 use Rattle.filler.specs.Words.{TreeIn}
 use Rattle.filler.proofs.Inputs.{values-count}
@@ -33,10 +36,9 @@ first-low x (y ∷ ys) (suc j) h e = go (ℕ-discrete x y) (first-low x ys j (om
     go (yes q) ih = omega (arith, first-here x y ys q)
     go (no n) ih = omega (arith, first-later x y ys n)
 
-pub tree-is : (w : ℕ) (inits links : List ℕ) → TreeIn w inits links → links ≡ grown (valuesIn inits) (replicate (length (valuesIn inits)) 0)
-tree-is w inits links t = t .is ∙ ap (λ (n : ℕ). grown (valuesIn inits) (replicate n 0)) (sym (values-count inits w (t .held)))
-
-pub tree-finds : (x w : ℕ) (inits links : List ℕ) → TreeIn w inits links → found x (valuesIn inits) links ≡ firstAt x (valuesIn inits)
-tree-finds x w inits links t =
-    ap (found x (valuesIn inits)) (tree-is w inits links t)
-    ∙ search-finds-first x (valuesIn inits) (omega (arith, values-count inits w (t .held), t .few))
+pub tree-finds : (x w : ℕ) (inits s : List ℕ) → TreeIn w inits s → found x (valuesIn inits) (take w s) ≡ firstAt x (valuesIn inits)
+tree-finds x w inits s t =
+    let many : length (valuesIn inits) ≡ w = values-count inits w (t .held) in
+    found-linked (valuesIn inits) (take w s) (grown (valuesIn inits) (replicate w 0)) (λ j h. ap linksIn (getD-take w s j 0 (omega arith)) ∙ t .links j (omega arith)) x
+    ∙ ap (λ (n : ℕ). found x (valuesIn inits) (grown (valuesIn inits) (replicate n 0))) (sym many)
+    ∙ search-finds-first x (valuesIn inits) (omega (arith, many, t .few))

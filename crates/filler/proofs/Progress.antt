@@ -15,12 +15,12 @@ use Rattle.memory.specs.declared.Memory.{Memory}
 use Rattle.memory.specs.declared.Memory.the-variants.{Ram, Rom, Set, Stack, Queue}
 use Rattle.memory.specs.Rows.{sized}
 use Rattle.runs.specs.Honest.{operationsFilled}
-use Rattle.runs.specs.Filler.{inputsIn, room}
+use Rattle.runs.specs.Filler.{inputsIn}
 use Rattle.filler.specs.declared.steps.Cursor.{Cursor}
 use Rattle.index.specs.Values.{valuesIn}
 use Rattle.filler.specs.Steps.{Turned, turn, advanced, Ready, toldBy, ramTold, romTold, setTold}
 use Rattle.filler.specs.Ends.{ending, EndingFits}
-use Rattle.filler.specs.Write.{widthOf, Fillable, Prepared, Ended}
+use Rattle.filler.specs.Write.{widthOf, usedWords, Fillable, Prepared, Ended}
 use Rattle.filler.proofs.Onward.{Given, Onward, Clean}
 use Rattle.filler.proofs.RamRun.{RamRun, ram-start, ram-ready, ram-turn, ram-ends}
 use Rattle.filler.proofs.RomRun.{RomRun, rom-start, rom-ready, rom-turn, rom-ends}
@@ -68,26 +68,26 @@ empty n m values ops e c = subst (λ (l : ℕ). Clean m values l (inputsIn ops))
 
 pub progress-start : (m : Memory) (n t : ℕ) (inits ops out s : List ℕ) → Fillable m n t inits ops out s → Prepared m n inits s
     → Progress m (widthOf m n t) t inits ops out 0 (record { clock = 1; head = 0; tail = 0 }) out s
-unfolding widthOf sized room
+unfolding widthOf sized usedWords
 progress-start m n t inits ops out s f prepared = go m (record { modulus = f .modulus; place = n + 1; none = f .clean }) prepared (f .allowed)
   where
-    words : 2 * n + 3 * t ≤ length s
-    words = f .scratch-room
+    words : length s ≡ n + 2 * t
+    words = f .scratch-used
 
     go : (m : Memory) → Clean m (valuesIn inits) n (inputsIn ops) → Prepared m n inits s → sized m n ≡ true
         → Progress m (widthOf m n t) t inits ops out 0 (record { clock = 1; head = 0; tail = 0 }) out s
-    go Ram c h a = ram-start n t inits ops out s (f .starting) (h .first) (h .others) (let r = words in omega arith) c
+    go Ram c h a = ram-start n t inits ops out s (f .starting) h (let r = words in omega arith) c
     go Rom c h a = rom-start n t inits ops out s h (let r = words in omega arith) c
-    go Set c h a = set-start n t inits ops out s h (let r = words in omega arith) c
+    go Set c h a = set-start n t inits ops out s h c
     go Stack c h a = stack-start t t inits ops out s h (let r = words in omega arith) (empty n Stack (valuesIn inits) ops (eqb-true n 0 a) c)
-    go Queue c h a = queue-start t t inits ops out s h (let r = words in omega arith) (empty n Queue (valuesIn inits) ops (eqb-true n 0 a) c)
+    go Queue c h a = queue-start t t inits ops out s (let r = words in omega arith) (empty n Queue (valuesIn inits) ops (eqb-true n 0 a) c)
 
 module _ (m : Memory) (w t : ℕ) (inits ops out₀ : List ℕ) (given : Given w t ops out₀) (is : Wide m w t inits) (k : ℕ) (at : Cursor) (out s : List ℕ) (run : Progress m w t inits ops out₀ k at out s) where
   pub progress-ready : k < t → Ready m w k at inits ops s
   progress-ready more = go m is run
     where
       go : (m : Memory) → Wide m w t inits → Progress m w t inits ops out₀ k at out s → Ready m w k at inits ops s
-      go Ram h r = record { early = omega (arith, r .timed, given .short); ready = ram-ready w t inits ops out₀ given k (at .clock) out s r more }
+      go Ram h r = record { low = omega (arith, given .short); early = omega (arith, r .timed, given .short); ready = ram-ready w t inits ops out₀ given k (at .clock) out s r more }
       go Rom h r = rom-ready w t inits ops out₀ given h k out s r more
       go Set h r = set-ready w t inits ops out₀ given h k out s r more
       go Stack h r = stack-ready w t inits ops out₀ given h k at out s r more
@@ -126,7 +126,7 @@ module _ (m : Memory) (w t : ℕ) (inits ops out₀ : List ℕ) (given : Given w
 -- the rows that the scratch words give after all operations, and that they have room
 module _ (w t : ℕ) (inits ops out₀ : List ℕ) (given : Given w t ops out₀) (at : Cursor) (out s : List ℕ) where
   progress-ends : (m : Memory) → Wide m w t inits → Progress m w t inits ops out₀ t at out s
-      → Onward (operationsFilled m t (valuesIn inits) (inputsIn ops)) (ending m w t at inits s) t out₀ out
+      → Onward (operationsFilled m t (valuesIn inits) (inputsIn ops)) (ending m w t at inits ops s) t out₀ out
   unfolding ending
   progress-ends Ram h r = ram-ends w t inits ops out₀ (at .clock) out s given r
   progress-ends Rom h r = rom-ends w t inits ops out₀ out s given h r
@@ -139,8 +139,8 @@ module _ (w t : ℕ) (inits ops out₀ : List ℕ) (given : Given w t ops out₀
 
   progress-fits : (m : Memory) → Wide m w t inits → Progress m w t inits ops out₀ t at out s → EndingFits m w t at inits s (drop (7 * t) out)
   progress-fits Ram h r = record { within = omega arith; held = r .roomy; room = left (r .onward .long) }
-  progress-fits Rom h r = record { count = h; held = let q = r .roomy in omega arith; room = let q = left (r .onward .long) in omega arith }
-  progress-fits Set h r = record { count = h; held = let q = r .roomy in omega arith; room = let q = left (r .onward .long) in omega arith }
+  progress-fits Rom h r = record { count = h; held = r .roomy; room = let q = left (r .onward .long) in omega arith }
+  progress-fits Set h r = record { count = h; held = r .tree .room; room = let q = left (r .onward .long) in omega arith }
   progress-fits Stack h r =
       let i = r .within in
       record { within = omega arith; held = r .roomy; room = let q = left (r .onward .long) in omega arith }

@@ -1,4 +1,5 @@
--- A run of accesses: contents and times of the cells lie in the scratch words, and after them the lookups of each age.
+-- A run of accesses: the sources and times of the cells lie in the scratch words, and after them
+-- the lookups of each age.
 --     ram-ready, ram-turn    an access is possible, and after it the run is one access further
 --     ram-start       before the first access
 --     ram-ends        after all of them the scratch words give the end rows and range rows
@@ -7,41 +8,47 @@ use Prim.Native.Nat.{ℕ, suc, _+_, _-_, _*_, _≤_, _<_}
 use native.Mathlib.Omega.{arith}
 use native.Mathlib.Decide.{ℕ-discrete}
 use native.Mathlib.Numerals.{add-one}
-use mathlib.Core.Bool.{cond}
+use mathlib.Core.Bool.{Bool, true, false, cond}
 use mathlib.Core.Path.{_≡_, refl, sym, ap, subst, _∙_}
 use mathlib.Core.List.{List, [], _∷_, _++_, map}
 use lib.Dec.{eqb}
 use lib.ListN.{length, getD, set, drop, length-set, length-map, drop-of-length-le, List·getD-map}
 use lib.Seq.{sets, getD-set-same, getD-set-other}
 use Rattle.memory.specs.declared.Memory.the-variants.{Ram}
-use Rattle.runs.specs.Honest.{Cell, cell, cellAt, filledRow, endRow, rangeRowsFrom, occurrences, ramAge, ramRow, ramCells, ramEnds, ramFrom, operationsFilled}
+use Rattle.runs.specs.Honest.{Cell, cell, cellAt, filledRow, rangeRowsFrom, occurrences, ramAge, ramRow, ramCells, ramEnds, ramFrom, operationsFilled}
 use Rattle.runs.specs.Filler.{inputsIn}
 use Rattle.words.specs.Inputs.{valueAt, opAt, guardAt, addrAt}
+use Rattle.words.specs.Cells.{span, packed, sourceIn, timeIn, contentIn}
 use Rattle.index.specs.Values.{valuesIn}
 use Rattle.faults.specs.Inputs.{inputAt}
-use Rattle.filler.specs.Steps.{Turn, turnOf, counted, ramTold, RamReady}
+use Rattle.filler.specs.Steps.{Turn, turnOf, counted, ramSource, ramTold, RamReady}
 use Rattle.filler.specs.Ends.{cellEnds, ranges}
 use Rattle.faults.specs.Scan.{leveled}
+use Rattle.memory.proofs.ReadFields.{chosen}
+use Rattle.index.proofs.Values.{values-at}
 use Rattle.filler.proofs.Inputs.{inputs-count, values-count}
+use Rattle.words.proofs.Packed.{source-packed, time-packed, content-packed, content-moved}
+use Rattle.filler.proofs.Span.{below-span}
 use Rattle.filler.proofs.Forms.{form-ram}
 use Rattle.filler.proofs.Onward.{Given, Onward, onward-start, onward-next, onward-as, Clean, CleanTurn, clean-turn, inside-ram, copied-words}
+use Rattle.filler.proofs.Lies.{Lies, cells-end}
 use Rattle.filler.proofs.Counts.{occurrences-few, counts-turn, ranges-are}
 
 -- the turn of operation k, of which only the clock matters
-abbrev pub ramTurn : ℕ → ℕ → ℕ → List ℕ → List ℕ → Turn
-ramTurn w k clock ops s = turnOf ops k (ramTold w (record { clock = clock; head = 0; tail = 0 }) (guardAt ops k) (addrAt ops k) (valueAt ops k) s)
+abbrev pub ramTurn : ℕ → ℕ → ℕ → List ℕ → List ℕ → List ℕ → Turn
+ramTurn w k clock inits ops s = turnOf ops k (ramTold w k (record { clock = clock; head = 0; tail = 0 }) (guardAt ops k) (addrAt ops k) inits ops s)
 
 pub record RamRun (w t : ℕ) (inits ops out₀ : List ℕ) (k clock : ℕ) (out s : List ℕ) : Type 0 where
   pub cells : List Cell
   pub ages : List ℕ
   pub count : length cells ≡ w
-  pub contents : (j : ℕ) → j < w → getD s j 0 ≡ cellAt cells j .content
-  pub times : (j : ℕ) → j < w → getD s (w + j) 0 ≡ cellAt cells j .time
-  pub past : (j : ℕ) → j < w → getD s (w + j) 0 < clock
-  pub counts : (a : ℕ) → a < t → getD s (2 * w + a) 0 ≡ occurrences (suc a) ages
+  pub held : (j : ℕ) → j < w → Lies inits ops j (getD s j 0) (cellAt cells j)
+  pub sources : (j : ℕ) → j < w → sourceIn (getD s j 0) ≤ k
+  pub past : (j : ℕ) → j < w → timeIn (getD s j 0) < clock
+  pub counts : (a : ℕ) → a < t → getD s (w + a) 0 ≡ occurrences (suc a) ages
   pub looked : length ages ≡ k
   pub timed : clock ≡ k + 1
-  pub roomy : 2 * w + t ≤ length s
+  pub roomy : w + t ≤ length s
   pub onward : Onward (operationsFilled Ram t (valuesIn inits) (inputsIn ops)) (ramFrom cells clock ages t (drop k (inputsIn ops))) k out₀ out
   pub clean : Clean Ram (valuesIn inits) w (drop k (inputsIn ops))
 
@@ -56,12 +63,16 @@ module _ (w t : ℕ) (inits ops out₀ : List ℕ) (given : Given w t ops out₀
   unfolding addr
   inside = inside-ram (valuesIn inits) w (opAt ops k) (guardAt ops k) (addrAt ops k) (valueAt ops k) (ram-clean .here .possible)
 
-  -- the time that the access reads, and the place of its age among the counts
+  -- the word of the cell, the time that the access reads in it, and the place of its age among the
+  -- counts
+  word : ℕ
+  word = getD s addr 0
+
   time : ℕ
-  time = getD s (w + addr) 0
+  time = timeIn word
 
   older : time < clock
-  unfolding time
+  unfolding time word
   older = run .past addr inside
 
   place : ℕ
@@ -75,11 +86,11 @@ module _ (w t : ℕ) (inits ops out₀ : List ℕ) (given : Given w t ops out₀
   unfolding place
   place-low = let c = run .timed in let o = older in omega arith
 
-  version : getD s (2 * w + place) 0 ≡ occurrences (clock - time) (run .ages)
+  version : getD s (w + place) 0 ≡ occurrences (clock - time) (run .ages)
   version = run .counts place place-low ∙ ap (λ (a : ℕ). occurrences a (run .ages)) place-is
 
   pub ram-ready : RamReady w clock (addrAt ops k) s
-  unfolding addr time place
+  unfolding addr word time place
   ram-ready = record {
     within = inside;
     older = older;
@@ -89,62 +100,84 @@ module _ (w t : ℕ) (inits ops out₀ : List ℕ) (given : Given w t ops out₀
     };
   }
 
-  -- the scratch words after the access, one store at a time
-  stored : ℕ
-  stored = cond (eqb (guardAt ops k) 1) (valueAt ops k) (getD s addr 0)
+  -- the content that the access reads, and the one that it leaves
+  old : ℕ
+  old = contentIn inits ops addr word
 
+  old-is : old ≡ cellAt (run .cells) addr .content
+  unfolding old word
+  old-is = run .held addr inside .content
+
+  stored : ℕ
+  stored = cond (eqb (guardAt ops k) 1) (valueAt ops k) old
+
+  -- the word that it leaves: its clock, and the source of that content
+  source : ℕ
+  source = ramSource k (guardAt ops k) addr s
+
+  early : clock < span
+  early = below-span clock (omega (arith, run .timed, more, given .short))
+
+  numbered : k + 1 < span
+  numbered = below-span (k + 1) (omega (arith, more, given .short))
+
+  source-low : source ≤ k + 1
+  unfolding source
+  source-low = chosen (λ (x : ℕ). x ≤ k + 1) (eqb (guardAt ops k) 1) (omega arith) (omega (arith, run .sources addr inside))
+
+  stored-is : contentIn inits ops addr (packed source clock) ≡ stored
+  unfolding source stored old word
+  stored-is = go (eqb (guardAt ops k) 1)
+    where
+      go : (b : Bool) → contentIn inits ops addr (packed (cond b (k + 1) (sourceIn (getD s addr 0))) clock) ≡ cond b (valueAt ops k) (contentIn inits ops addr (getD s addr 0))
+      go true = content-packed inits ops addr k clock numbered
+      go false = content-moved inits ops addr (getD s addr 0) clock (omega (arith, run .sources addr inside, numbered))
+
+  -- the scratch words after the access, one store at a time
   s₁ : List ℕ
-  s₁ = counted s (2 * w + place)
+  s₁ = counted s (w + place)
 
   s₂ : List ℕ
-  s₂ = set s₁ addr stored
-
-  s₃ : List ℕ
-  s₃ = set s₂ (w + addr) clock
+  s₂ = set s₁ addr (packed source clock)
 
   long₁ : length s₁ ≡ length s
   unfolding s₁
-  long₁ = length-set s (2 * w + place) (getD s (2 * w + place) 0 + 1)
+  long₁ = length-set s (w + place) (getD s (w + place) 0 + 1)
 
   long₂ : length s₂ ≡ length s
   unfolding s₂
-  long₂ = length-set s₁ addr stored ∙ long₁
+  long₂ = length-set s₁ addr (packed source clock) ∙ long₁
 
-  long₃ : length s₃ ≡ length s
-  unfolding s₃
-  long₃ = length-set s₂ (w + addr) clock ∙ long₂
+  -- a word of the cells that is not written, and the one that is
+  kept : (j : ℕ) → j < w → (j ≡ addr → ⊥) → getD s₂ j 0 ≡ getD s j 0
+  unfolding s₁ s₂
+  kept j h a =
+      getD-set-other s₁ addr j (packed source clock) 0 a ∙ getD-set-other s (w + place) j (getD s (w + place) 0 + 1) 0 (λ e. omega arith)
 
-  -- a word of the cells that is not written
-  kept : (j : ℕ) → j < 2 * w → (j ≡ addr → ⊥) → (j ≡ w + addr → ⊥) → getD s₃ j 0 ≡ getD s j 0
-  unfolding s₁ s₂ s₃
-  kept j h a b =
-      getD-set-other s₂ (w + addr) j clock 0 b ∙ getD-set-other s₁ addr j stored 0 a
-      ∙ getD-set-other s (2 * w + place) j (getD s (2 * w + place) 0 + 1) 0 (λ e. omega arith)
-
-  stored-at : getD s₃ addr 0 ≡ stored
-  unfolding s₂ s₃
-  stored-at =
+  word-at : (j : ℕ) → j ≡ addr → getD s₂ j 0 ≡ packed source clock
+  unfolding s₂
+  word-at j e =
       let r = run .roomy in
       let l = long₁ in
       let i = inside in
-      getD-set-other s₂ (w + addr) addr clock 0 (λ e. omega arith) ∙ getD-set-same s₁ addr stored 0 (omega arith)
+      ap (λ (x : ℕ). getD (set s₁ addr (packed source clock)) x 0) e ∙ getD-set-same s₁ addr (packed source clock) 0 (omega arith)
 
-  timed-at : getD s₃ (w + addr) 0 ≡ clock
-  unfolding s₃
-  timed-at =
-      let r = run .roomy in
-      let l = long₂ in
-      let i = inside in
-      getD-set-same s₂ (w + addr) clock 0 (omega arith)
+  -- what holds of the word that is written, and of those that are not, holds of all
+  each : (P : ℕ → ℕ → Type 0) → P addr (packed source clock) → ((j : ℕ) → j < w → (j ≡ addr → ⊥) → P j (getD s j 0)) → (j : ℕ) → j < w → P j (getD s₂ j 0)
+  each P here others j h = go (ℕ-discrete j addr)
+    where
+      go : Dec (j ≡ addr) → P j (getD s₂ j 0)
+      go (yes e) = subst (P j) (sym (word-at j e)) (subst (λ (i : ℕ). P i (packed source clock)) (sym e) here)
+      go (no n) = subst (P j) (sym (kept j h n)) (others j h n)
 
   -- the counts after the access
-  ages-counted : (a : ℕ) → a < t → getD s₃ (2 * w + a) 0 ≡ occurrences (suc a) ((clock - time) ∷ run .ages)
-  unfolding s₁ s₂ s₃
+  ages-counted : (a : ℕ) → a < t → getD s₂ (w + a) 0 ≡ occurrences (suc a) ((clock - time) ∷ run .ages)
+  unfolding s₁ s₂
   ages-counted a h =
       let r = run .roomy in
       let i = inside in
-      getD-set-other s₂ (w + addr) (2 * w + a) clock 0 (λ e. omega arith) ∙ getD-set-other s₁ addr (2 * w + a) stored 0 (λ e. omega arith)
-      ∙ counts-turn s (2 * w) t suc (run .ages) (clock - time) place (run .counts) r place-low place-is (λ j e. let q = place-is in omega arith) a h
+      getD-set-other s₁ addr (w + a) (packed source clock) 0 (λ e. omega arith)
+      ∙ counts-turn s w t suc (run .ages) (clock - time) place (run .counts) r place-low place-is (λ j e. let q = place-is in omega arith) a h
 
   -- the cells after the access
   cells′ : List Cell
@@ -158,106 +191,75 @@ module _ (w t : ℕ) (inits ops out₀ : List ℕ) (given : Given w t ops out₀
   unfolding cells′ cellAt
   cell-kept j n = getD-set-other (run .cells) addr j (cell stored clock) (cell 0 0) n
 
-  contents′ : (j : ℕ) → j < w → getD s₃ j 0 ≡ cellAt cells′ j .content
+  held′ : (j : ℕ) → j < w → Lies inits ops j (getD s₂ j 0) (cellAt cells′ j)
   unfolding cell
-  contents′ j h = go (ℕ-discrete j addr)
-    where
-      go : Dec (j ≡ addr) → getD s₃ j 0 ≡ cellAt cells′ j .content
-      go (yes e) = ap (λ (i : ℕ). getD s₃ i 0) e ∙ stored-at ∙ sym (ap (λ (i : ℕ). cellAt cells′ i .content) e ∙ ap (λ (c : Cell). c .content) cell-at)
-      go (no n) = kept j (omega arith) n (λ e. omega arith) ∙ run .contents j h ∙ sym (ap (λ (c : Cell). c .content) (cell-kept j n))
+  held′ =
+      each (λ j x. Lies inits ops j x (cellAt cells′ j))
+      (subst (Lies inits ops addr (packed source clock)) (sym cell-at) (record { content = stored-is; time = time-packed source clock early }))
+      (λ j h n. subst (Lies inits ops j (getD s j 0)) (sym (cell-kept j n)) (run .held j h))
 
-  times′ : (j : ℕ) → j < w → getD s₃ (w + j) 0 ≡ cellAt cells′ j .time
-  unfolding cell
-  times′ j h = go (ℕ-discrete j addr)
-    where
-      go : Dec (j ≡ addr) → getD s₃ (w + j) 0 ≡ cellAt cells′ j .time
-      go (yes e) = ap (λ (i : ℕ). getD s₃ (w + i) 0) e ∙ timed-at ∙ sym (ap (λ (i : ℕ). cellAt cells′ i .time) e ∙ ap (λ (c : Cell). c .time) cell-at)
-      go (no n) =
-          kept (w + j) (omega arith) (λ e. let i = inside in omega arith) (λ e. n (omega arith)) ∙ run .times j h ∙ sym (ap (λ (c : Cell). c .time) (cell-kept j n))
+  sources′ : (j : ℕ) → j < w → sourceIn (getD s₂ j 0) ≤ k + 1
+  sources′ =
+      each (λ j x. sourceIn x ≤ k + 1) (omega (arith, source-packed source clock (omega (arith, source-low, numbered)), source-low)) (λ j h n. omega (arith, run .sources j h))
 
-  past′ : (j : ℕ) → j < w → getD s₃ (w + j) 0 < clock + 1
-  past′ j h = go (ℕ-discrete j addr)
-    where
-      go : Dec (j ≡ addr) → getD s₃ (w + j) 0 < clock + 1
-      go (yes e) = let q : getD s₃ (w + j) 0 ≡ clock = ap (λ (i : ℕ). getD s₃ (w + i) 0) e ∙ timed-at in omega arith
-      go (no n) = let q = kept (w + j) (omega arith) (λ e. let i = inside in omega arith) (λ e. n (omega arith)) in omega (arith, run .past j h)
+  past′ : (j : ℕ) → j < w → timeIn (getD s₂ j 0) < clock + 1
+  past′ = each (λ j x. timeIn x < clock + 1) (omega (arith, time-packed source clock early)) (λ j h n. omega (arith, run .past j h))
 
   -- the honest state after the access is the one that the words hold
   cells-are : ramCells (run .cells) clock (inputAt ops k) ≡ cells′
   unfolding ramCells inputAt addr cells′ stored
-  cells-are = ap (λ (x : ℕ). set (run .cells) addr (cell (cond (eqb (guardAt ops k) 1) (valueAt ops k) x) clock)) (sym (run .contents addr inside))
+  cells-are = ap (λ (x : ℕ). set (run .cells) addr (cell (cond (eqb (guardAt ops k) 1) (valueAt ops k) x) clock)) (sym old-is)
 
   age-is : ramAge (run .cells) clock (inputAt ops k) ≡ clock - time
-  unfolding ramAge inputAt addr time
-  age-is = ap (λ (x : ℕ). clock - x) (sym (run .times addr inside))
+  unfolding ramAge inputAt addr time word
+  age-is = ap (λ (x : ℕ). clock - x) (sym (run .held addr inside .time))
 
-  row-is : ramRow (run .cells) clock (run .ages) (inputAt ops k) ≡ filledRow (inputAt ops k) (getD s addr 0) time (getD s (2 * w + place) 0)
-  unfolding ramRow inputAt addr time
+  row-is : ramRow (run .cells) clock (run .ages) (inputAt ops k) ≡ filledRow (inputAt ops k) old time (getD s (w + place) 0)
+  unfolding ramRow inputAt addr time word
   row-is =
-      let version′ : occurrences (ramAge (run .cells) clock (inputAt ops k)) (run .ages) ≡ getD s (2 * w + place) 0 = ap (λ (a : ℕ). occurrences a (run .ages)) age-is ∙ sym version in
-      λ i. filledRow (inputAt ops k) (sym (run .contents addr inside) i) (sym (run .times addr inside) i) (version′ i)
+      let version′ : occurrences (ramAge (run .cells) clock (inputAt ops k)) (run .ages) ≡ getD s (w + place) 0 = ap (λ (a : ℕ). occurrences a (run .ages)) age-is ∙ sym version in
+      λ i. filledRow (inputAt ops k) (sym old-is i) (sym (run .held addr inside .time) i) (version′ i)
 
   op-low : opAt ops k ≤ 9
   op-low = omega (arith, form-ram (opAt ops k) (guardAt ops k) (addrAt ops k) (valueAt ops k) (ram-clean .here .formed))
 
-  pub ram-turn : RamRun w t inits ops out₀ (k + 1) (clock + 1) (sets out (7 * k) (ramTurn w k clock ops s .words)) (ramTurn w k clock ops s .scratch)
-  unfolding ramTold ramFrom leveled addr time place stored s₁ s₂ s₃ cells′
+  pub ram-turn : RamRun w t inits ops out₀ (k + 1) (clock + 1) (sets out (7 * k) (ramTurn w k clock inits ops s .words)) (ramTurn w k clock inits ops s .scratch)
+  unfolding ramTold ramFrom leveled addr word time place old source s₁ s₂ cells′
   ram-turn = record {
     cells = cells′;
     ages = (clock - time) ∷ run .ages;
     count = cells-long;
-    contents = contents′;
-    times = times′;
+    held = held′;
+    sources = sources′;
     past = past′;
     counts = ages-counted;
     looked = let l = run .looked in omega arith;
     timed = let c = run .timed in omega arith;
-    roomy = subst (λ (n : ℕ). 2 * w + t ≤ n) (sym long₃) (run .roomy);
+    roomy = subst (λ (n : ℕ). w + t ≤ n) (sym long₂) (run .roomy);
     onward = onward-next w t ops given more (ramFrom (run .cells) clock (run .ages) t) (ramFrom cells′ (clock + 1) ((clock - time) ∷ run .ages) t)
-        (filledRow (inputAt ops k) (getD s addr 0) time (getD s (2 * w + place) 0))
-        (ramTurn w k clock ops s .words)
+        (filledRow (inputAt ops k) old time (getD s (w + place) 0))
+        (ramTurn w k clock inits ops s .words)
         (run .onward)
         (λ i. row-is i ∷ ramFrom (cells-are i) (sym (add-one clock) i) (age-is i ∷ run .ages) t (drop (suc k) (inputsIn ops)))
-        (copied-words ops k (getD s addr 0) time (getD s (2 * w + place) 0) op-low);
+        (copied-words ops k old time (getD s (w + place) 0) op-low);
     clean = ram-clean .later;
   }
     where
       cells-long : length cells′ ≡ w
       cells-long = length-set (run .cells) addr (cell stored clock) ∙ run .count
 
--- contents and times give the end rows
-ram-ends-from : (w j : ℕ) (cells : List Cell) (s : List ℕ) → ((i : ℕ) → i < length cells → getD s (j + i) 0 ≡ cellAt cells i .content)
-    → ((i : ℕ) → i < length cells → getD s (w + (j + i)) 0 ≡ cellAt cells i .time) → ramEnds cells ≡ cellEnds w j (length cells) s
-unfolding ramEnds cellEnds cellAt
-ram-ends-from w j [] s contents times = refl
-ram-ends-from w j (c ∷ cells) s contents times =
-    let content : getD s j 0 ≡ c .content = ap (λ (i : ℕ). getD s i 0) start ∙ contents 0 (omega arith) in
-    let time : getD s (w + j) 0 ≡ c .time = ap (λ (i : ℕ). getD s (w + i) 0) start ∙ times 0 (omega arith) in
-    λ i. endRow 0 (sym content i) (sym time i) 0
-    ∷ ram-ends-from w (suc j) cells s
-    (λ n l. ap (λ (x : ℕ). getD s x 0) (step n) ∙ contents (suc n) (omega arith))
-    (λ n l. ap (λ (x : ℕ). getD s (w + x) 0) (step n) ∙ times (suc n) (omega arith)) i
-  where
-    start : j ≡ j + 0
-    start = omega arith
-
-    step : (n : ℕ) → suc j + n ≡ j + suc n
-    step n = omega arith
-
 pub ram-ends : (w t : ℕ) (inits ops out₀ : List ℕ) (clock : ℕ) (out s : List ℕ) → Given w t ops out₀ → (run : RamRun w t inits ops out₀ t clock out s)
-    → Onward (operationsFilled Ram t (valuesIn inits) (inputsIn ops)) (cellEnds w 0 w s ++ ranges (2 * w) t s) t out₀ out
+    → Onward (operationsFilled Ram t (valuesIn inits) (inputsIn ops)) (cellEnds inits ops 0 w s ++ ranges w t s) t out₀ out
 unfolding ramFrom
 ram-ends w t inits ops out₀ clock out s given run =
     let past : drop t (inputsIn ops) ≡ [] = drop-of-length-le (inputsIn ops) {i = t} (omega (arith, inputs-count ops t (given .rows))) in
     let count = run .count in
-    let ends : ramEnds (run .cells) ≡ cellEnds w 0 w s =
-    ram-ends-from w 0 (run .cells) s
-    (λ i h. ap (λ (x : ℕ). getD s x 0) (from-zero i) ∙ run .contents i (omega arith))
-    (λ i h. ap (λ (x : ℕ). getD s (w + x) 0) (from-zero i) ∙ run .times i (omega arith))
-    ∙ ap (λ (n : ℕ). cellEnds w 0 n s) count in
-    let ages : rangeRowsFrom 1 t (run .ages) ≡ ranges (2 * w) t s =
-    ranges-are s (2 * w) t 0 t (run .ages) (run .counts) (omega arith) ∙ ap (λ (b : ℕ). ranges b t s) (to-zero (2 * w)) in
-    onward-as (cellEnds w 0 w s ++ ranges (2 * w) t s) (ap (ramFrom (run .cells) clock (run .ages) t) past ∙ (λ i. ends i ++ ages i)) (run .onward)
+    let ends : ramEnds (run .cells) ≡ cellEnds inits ops 0 w s =
+    cells-end inits ops s 0 (run .cells) (λ i h. subst (λ (x : ℕ). Lies inits ops x (getD s x 0) (cellAt (run .cells) i)) (sym (from-zero i)) (run .held i (omega arith)))
+    ∙ ap (λ (n : ℕ). cellEnds inits ops 0 n s) count in
+    let ages : rangeRowsFrom 1 t (run .ages) ≡ ranges w t s =
+    ranges-are s w t 0 t (run .ages) (run .counts) (omega arith) ∙ ap (λ (b : ℕ). ranges b t s) (to-zero w) in
+    onward-as (cellEnds inits ops 0 w s ++ ranges w t s) (ap (ramFrom (run .cells) clock (run .ages) t) past ∙ (λ i. ends i ++ ages i)) (run .onward)
   where
     from-zero : (i : ℕ) → 0 + i ≡ i
     from-zero i = omega arith
@@ -266,17 +268,20 @@ ram-ends w t inits ops out₀ clock out s given run =
     to-zero b = omega arith
 
 -- before the first access
-pub ram-start : (w t : ℕ) (inits ops out s : List ℕ) → 4 * w ≡ length inits → ((j : ℕ) → j < w → getD s j 0 ≡ getD (valuesIn inits) j 0) → ((j : ℕ) → getD s (w + j) 0 ≡ 0)
-    → 2 * w + t ≤ length s → Clean Ram (valuesIn inits) w (inputsIn ops) → RamRun w t inits ops out 0 1 out s
-unfolding operationsFilled cellAt cell occurrences
-ram-start w t inits ops out s count contents zeros roomy clean = record {
+pub ram-start : (w t : ℕ) (inits ops out s : List ℕ) → 4 * w ≡ length inits → ((j : ℕ) → getD s j 0 ≡ 0) → w + t ≤ length s → Clean Ram (valuesIn inits) w (inputsIn ops)
+    → RamRun w t inits ops out 0 1 out s
+unfolding operationsFilled cellAt cell occurrences contentIn sourceIn timeIn span
+ram-start w t inits ops out s count zeros roomy clean = record {
   cells = map start (valuesIn inits);
   ages = [];
   count = length-map (valuesIn inits) start ∙ values-count inits w count;
-  contents = λ j h. contents j h ∙ sym (ap (λ (c : Cell). c .content) (at j));
-  times = λ j h. zeros j ∙ sym (ap (λ (c : Cell). c .time) (at j));
-  past = λ j h. omega (arith, zeros j);
-  counts = λ a h. ap (λ (i : ℕ). getD s i 0) (two a) ∙ zeros (w + a);
+  held = λ j h. record {
+    content = ap (contentIn inits ops j) (zeros j) ∙ sym (values-at inits j (omega arith)) ∙ sym (ap (λ (c : Cell). c .content) (at j));
+    time = ap timeIn (zeros j) ∙ sym (ap (λ (c : Cell). c .time) (at j));
+  };
+  sources = λ j h. omega (arith, ap sourceIn (zeros j));
+  past = λ j h. omega (arith, ap timeIn (zeros j));
+  counts = λ a h. zeros (w + a);
   looked = refl;
   timed = refl;
   roomy = roomy;
@@ -289,6 +294,3 @@ ram-start w t inits ops out s count contents zeros roomy clean = record {
 
     at : (j : ℕ) → getD (map start (valuesIn inits)) j (cell 0 0) ≡ start (getD (valuesIn inits) j 0)
     at j = List·getD-map start (valuesIn inits) j 0
-
-    two : (a : ℕ) → 2 * w + a ≡ w + (w + a)
-    two a = omega arith

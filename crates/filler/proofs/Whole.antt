@@ -1,12 +1,12 @@
 -- What a fill leaves, as the definition has it.
---     blank-all       words that are all 0
 --     sized-limit, allowed-size, allowed-count    what an allowed size and count are
 --     Fills           the code's answer and what is left in both lent slices are those of a filling
 --     refused-is, filled-is    a refused row, and a fill
+--     used-blank, used-filled    a fill with the scratch words that are used, and with all
 --     roomy, away-unknown, away, not-away    what the library answers before it reads a row
 --     init-words-count, op-words-count, parts-filled    the rows in two parts, as they are lent
 -- Assumes nothing.
-use Prim.Native.Nat.{ℕ, zero, suc, _+_, _-_, _*_, _≤_}
+use Prim.Native.Nat.{ℕ, _+_, _-_, _*_, _≤_}
 use native.Mathlib.Omega.{arith}
 use native.Mathlib.Nat.{zero-add}
 use mathlib.Core.Bool.{Bool, true, false, cond, _&&_}
@@ -14,7 +14,7 @@ use mathlib.Core.Option.{Option, none, some}
 use mathlib.Core.Path.{_≡_, refl, sym, ap, _∙_}
 use mathlib.Core.List.{List, _++_, map}
 use lib.Dec.{eqb, leb}
-use lib.ListN.{length, getD, take, drop, replicate, length-drop}
+use lib.ListN.{length, getD, take, drop, replicate, length-drop, length-replicate, take-append-drop}
 use lib.Seq.{length-take-le}
 use borrow.Author.Tests.{eq-eqb, ne-eqb, leb-true, eqb-true}
 use Rattle.memory.specs.declared.Memory.{Memory}
@@ -29,13 +29,8 @@ use Rattle.filler.specs.declared.Filled.the-variants.{Rows, Refused}
 use Rattle.filler.specs.Answer.{filledOf, awayBy, Roomy}
 use Rattle.layout.specs.Laid.{laid}
 use Rattle.filler.proofs.Inputs.{inputs-take, inputs-drop}
+use Rattle.filler.proofs.Tree.{blank-all, blank-part}
 use Rattle.layout.proofs.Laid.{part-lent}
-
-pub blank-all : (n j : ℕ) → _≡_ {A = ℕ} (getD (replicate n 0) j 0) 0
-blank-all zero zero = refl
-blank-all zero (suc j) = refl
-blank-all (suc n) zero = refl
-blank-all (suc n) (suc j) = blank-all n j
 
 and-both : (a b : Bool) → (a && b) ≡ true → (a ≡ true) × (b ≡ true)
 and-both true b e = (refl, e)
@@ -95,6 +90,47 @@ filled-is q m t inits ops out s out′ s′ count clean o b c =
     fills-same {f = record { answer = 0; place = 0; count = count; output = out′; scratch = s′ }} (refl, (refl, refl))
     ((λ i. record { answer = 0; place = 0; count = c i; output = written i; scratch = b i })
     ∙ sym (ap (λ (x : Bool). cond x (filledWith (filledRows m t inits ops) out s) (rowRefused (rowsFault q m (map (λ i. i .value) inits) 1 inits ops) out s)) (eq-eqb (rowsFault q m (map (λ i. i .value) inits) 1 inits ops .number) 0 clean)))
+
+-- the first words of blank ones are blank
+used-part : (u : ℕ) (s s₁ : List ℕ) → s₁ ≡ replicate (length s) 0 → u ≤ length s → take u s₁ ≡ replicate u 0
+used-part u s s₁ e h =
+    blank-part u s₁ (omega (arith, ap length e, length-replicate {A = ℕ} (length s) 0)) (λ j. ap (λ (l : List ℕ). getD l j 0) e ∙ blank-all (length s) j)
+
+pub used-blank : (u : ℕ) (s s₁ : List ℕ) → s₁ ≡ replicate (length s) 0 → u ≤ length s → (j : ℕ) → getD (take u s₁) j 0 ≡ 0
+used-blank u s s₁ e h j = ap (λ (l : List ℕ). getD l j 0) (used-part u s s₁ e h) ∙ blank-all u j
+
+-- what a fill with the first u of blank scratch words leaves, with all of them
+module _ (q : ℕ) (m : Memory) (t : ℕ) (inits ops : List Input) (out s s₁ : List ℕ) (u : ℕ) (blank : s₁ ≡ replicate (length s) 0) (fits : u ≤ length s) where
+  fault : Placed
+  fault = rowsFault q m (map (λ i. i .value) inits) 1 inits ops
+
+  by : Bool → List ℕ → Filling
+  by b l = cond b (filledWith (filledRows m t inits ops) out l) (rowRefused fault out l)
+
+  blank-left : (b : Bool) (l : List ℕ) → by b l .scratch ≡ replicate (length l) 0
+  unfolding by filledWith rowRefused
+  blank-left true l = refl
+  blank-left false l = refl
+
+  same-answer : (b : Bool) (l : List ℕ) → filledOf (by b l) ≡ filledOf (by b s)
+  unfolding by filledWith rowRefused filledOf
+  same-answer true l = refl
+  same-answer false l = refl
+
+  same-output : (b : Bool) (l : List ℕ) → by b l .output ≡ by b s .output
+  unfolding by filledWith rowRefused
+  same-output true l = refl
+  same-output false l = refl
+
+  pub used-filled : (out′ part : List ℕ) (f : Filled) → Fills (fillRows q m t inits ops out (take u s₁)) f out′ part → Fills (fillRows q m t inits ops out s) f out′ (part ++ drop u s₁)
+  unfolding fillRows fault by
+  used-filled out′ part f h =
+      let b = eqb (fault .number) 0 in
+      let long : length (take u s₁) ≡ u = length-take-le u s₁ (omega (arith, ap length blank, length-replicate {A = ℕ} (length s) 0)) in
+      let left : part ≡ take u s₁ =
+      h .1 .1 ∙ blank-left b (take u s₁) ∙ ap (λ (k : ℕ). replicate k 0) long ∙ sym (used-part u s s₁ blank fits) in
+      let whole : part ++ drop u s₁ ≡ replicate (length s) 0 = ap (λ (l : List ℕ). l ++ drop u s₁) left ∙ take-append-drop u s₁ ∙ blank in
+      (h .0 ∙ same-answer b (take u s₁), (h .1 .0 ∙ same-output b (take u s₁), whole ∙ sym (blank-left b s)))
 
 -- the rows in two parts, as they are lent
 module _ (rows : List ℕ) (n t : ℕ) (all : length rows ≡ 4 * (n + t)) where

@@ -2,6 +2,8 @@
 use super::steps::Cursor;
 use memory::Memory;
 use words::Input;
+use words::cells;
+use words::counts;
 ghost use mathlib.Core.List.{_++_};
 ghost use mathlib.Core.Path.{_≡_};
 ghost use Prim.Native.Nat.{_+_, _*_};
@@ -15,10 +17,17 @@ const END: u64 = 8;
 const RANGE: u64 = 9;
 
 // The end rows of so many cells from word `from` on; how many they are.
-fn cell_ends(w: usize, from: usize, count: usize, scratch: &[u64], out: &mut [u64]) -> usize
-    requires { ⌜ CellsFit w from count (now scratch) (now out) ⌝ }
-    ensures rows { λ _. ⌜ now (out .exit) ≡ laid (now (out .entry)) 0 (cellEnds w from count (now (scratch .entry))) ⌝ }
-    ensures count { λ r. ⌜ r ≡ length (cellEnds w from count (now (scratch .entry))) ⌝ }
+fn cell_ends(
+    from: usize,
+    count: usize,
+    inits: &[u64],
+    ops: &[u64],
+    scratch: &[u64],
+    out: &mut [u64],
+) -> usize
+    requires { ⌜ CellsFit from count (now scratch) (now out) ⌝ }
+    ensures rows { λ _. ⌜ now (out .exit) ≡ laid (now (out .entry)) 0 (cellEnds (now (inits .entry)) (now (ops .entry)) from count (now (scratch .entry))) ⌝ }
+    ensures count { λ r. ⌜ r ≡ length (cellEnds (now (inits .entry)) (now (ops .entry)) from count (now (scratch .entry))) ⌝ }
 {
     let mut i = 0;
     while i < count {
@@ -29,17 +38,19 @@ fn cell_ends(w: usize, from: usize, count: usize, scratch: &[u64], out: &mut [u6
             addr: 0,
             value: 0,
         };
-        words::put(i, row, scratch[at], scratch[w + at], 0, out);
+        let word = scratch[at];
+        let old = cells::content(at, word, inits, ops);
+        words::put(i, row, old, cells::time_in(word), 0, out);
         i += 1;
     }
     count
 }
 
-// The end rows of n values, the lookups of which lie from word n on; how many they are.
+// The end rows of n values, whose lookups the first n words count; how many they are.
 fn value_ends(n: usize, inits: &[u64], scratch: &[u64], out: &mut [u64]) -> usize
     requires { ⌜ ValuesFit n (now inits) (now scratch) (now out) ⌝ }
-    ensures rows { λ _. ⌜ now (out .exit) ≡ laid (now (out .entry)) 0 (valueEnds n (valuesIn (now (inits .entry))) (now (scratch .entry))) ⌝ }
-    ensures count { λ r. ⌜ r ≡ length (valueEnds n (valuesIn (now (inits .entry))) (now (scratch .entry))) ⌝ }
+    ensures rows { λ _. ⌜ now (out .exit) ≡ laid (now (out .entry)) 0 (valueEnds 0 (valuesIn (now (inits .entry))) (now (scratch .entry))) ⌝ }
+    ensures count { λ r. ⌜ r ≡ length (valueEnds 0 (valuesIn (now (inits .entry))) (now (scratch .entry))) ⌝ }
 {
     let mut i = 0;
     while i < n {
@@ -49,7 +60,7 @@ fn value_ends(n: usize, inits: &[u64], scratch: &[u64], out: &mut [u64]) -> usiz
             addr: 0,
             value: inits[4 * i + 3],
         };
-        words::put(i, row, 0, 0, scratch[n + i], out);
+        words::put(i, row, 0, 0, counts::lookups_in(scratch[i]), out);
         i += 1;
     }
     n
@@ -73,15 +84,24 @@ fn range_rows(from: usize, count: usize, scratch: &[u64], out: &mut [u64])
     }
 }
 
-// The end rows of so many cells, and then the range rows, to which a further part of the output is handed on; how many they are.
-fn cells_and_ranges(w: usize, t: usize, count: usize, scratch: &[u64], out: &mut [u64]) -> usize
+// The end rows of so many of w cells, and then the range rows, to which a further part of the
+// output is handed on; how many they are.
+fn cells_and_ranges(
+    w: usize,
+    t: usize,
+    count: usize,
+    inits: &[u64],
+    ops: &[u64],
+    scratch: &[u64],
+    out: &mut [u64],
+) -> usize
     requires { ⌜ CellsAndRangesFit w t count (now scratch) (now out) ⌝ }
-    ensures rows { λ _. ⌜ now (out .exit) ≡ laid (now (out .entry)) 0 (cellEnds w 0 count (now (scratch .entry)) ++ ranges (2 * w) t (now (scratch .entry))) ⌝ }
-    ensures count { λ r. ⌜ r ≡ length (cellEnds w 0 count (now (scratch .entry)) ++ ranges (2 * w) t (now (scratch .entry))) ⌝ }
+    ensures rows { λ _. ⌜ now (out .exit) ≡ laid (now (out .entry)) 0 (cellEnds (now (inits .entry)) (now (ops .entry)) 0 count (now (scratch .entry)) ++ ranges w t (now (scratch .entry))) ⌝ }
+    ensures count { λ r. ⌜ r ≡ length (cellEnds (now (inits .entry)) (now (ops .entry)) 0 count (now (scratch .entry)) ++ ranges w t (now (scratch .entry))) ⌝ }
 {
-    let cells = cell_ends(w, 0, count, scratch, out);
+    let cells = cell_ends(0, count, inits, ops, scratch, out);
     let from = 7 * count;
-    range_rows(2 * w, t, scratch, &mut out[from..]);
+    range_rows(w, t, scratch, &mut out[from..]);
     cells + t
 }
 
@@ -92,17 +112,18 @@ pub(crate) fn finish(
     t: usize,
     at: Cursor,
     inits: &[u64],
+    ops: &[u64],
     scratch: &[u64],
     out: &mut [u64],
 ) -> usize
     requires { ⌜ EndingFits m w t at (now inits) (now scratch) (now out) ⌝ }
-    ensures rows { λ _. ⌜ now (out .exit) ≡ laid (now (out .entry)) 0 (ending m w t at (now (inits .entry)) (now (scratch .entry))) ⌝ }
-    ensures count { λ r. ⌜ r ≡ length (ending m w t at (now (inits .entry)) (now (scratch .entry))) ⌝ }
+    ensures rows { λ _. ⌜ now (out .exit) ≡ laid (now (out .entry)) 0 (ending m w t at (now (inits .entry)) (now (ops .entry)) (now (scratch .entry))) ⌝ }
+    ensures count { λ r. ⌜ r ≡ length (ending m w t at (now (inits .entry)) (now (ops .entry)) (now (scratch .entry))) ⌝ }
 {
     match m {
-        Memory::Ram => cells_and_ranges(w, t, w, scratch, out),
+        Memory::Ram => cells_and_ranges(w, t, w, inits, ops, scratch, out),
         Memory::Rom | Memory::Set => value_ends(w, inits, scratch, out),
-        Memory::Stack => cells_and_ranges(w, t, at.tail, scratch, out),
-        Memory::Queue => cell_ends(w, at.head, at.tail - at.head, scratch, out),
+        Memory::Stack => cells_and_ranges(w, t, at.tail, inits, ops, scratch, out),
+        Memory::Queue => cell_ends(at.head, at.tail - at.head, inits, ops, scratch, out),
     }
 }

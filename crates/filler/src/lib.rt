@@ -22,7 +22,7 @@ ghost use Rattle.index.specs.Values.{valuesIn};
 ghost use Rattle.filler.specs.Answer.{filledOf, knownOf, awayBy, Roomy};
 ghost use Rattle.layout.specs.Laid.{laid};
 ghost use Rattle.faults.specs.Scan.{placedOf};
-ghost use Rattle.filler.specs.Write.{CleanInits, Fillable, Prepared};
+ghost use Rattle.filler.specs.Write.{CleanInits, Fillable, Prepared, Blank, Within};
 
 // What a fill comes to: how many rows it wrote, or the number and the place of its refusal.
 pub enum Filled {
@@ -88,6 +88,7 @@ fn write_rows(
 }
 
 // The first fault of the rows, found with the scratch words as they are before the first operation.
+// They are lent as 0.
 fn first_fault(
     field: Modulus,
     m: Memory,
@@ -98,15 +99,43 @@ fn first_fault(
 ) -> Fault
     requires { ⌜ (4 * n ≡ length (now inits)) × (n ≤ limit) × (n ≤ length (now scratch)) ⌝ }
     requires { ⌜ sized m n ≡ true ⌝ }
+    requires { ⌜ Blank (now scratch) ⌝ }
     ensures fault { λ r. ⌜ placedOf r ≡ rowsFault (modulusOf field) m (valuesIn (now (inits .entry))) 1 (inputsIn (now (inits .entry))) (inputsIn (now (ops .entry))) ⌝ }
     ensures prepared { λ _. ⌜ Prepared m n (now (inits .entry)) (now (scratch .exit)) ⌝ }
 {
-    words::clear(scratch);
     write::prepare(m, n, inits, scratch);
     faults::first(field, m, inits, &scratch[..n], ops)
 }
 
-// The filler on rows that are as many as they should be, with room.
+// The filler on rows that are as many as they should be, with room for their rows and exactly
+// n + 2t scratch words, which are 0.
+fn fill_within(
+    field: Modulus,
+    m: Memory,
+    n: usize,
+    t: usize,
+    rows: &[u64],
+    out: &mut [u64],
+    scratch: &mut [u64],
+) -> Filled
+    requires { ⌜ Within m n t (now rows) (now out) (now scratch) ⌝ }
+    ensures answer { λ r. ⌜ r ≡ filledOf (fillRows (modulusOf field) m t (take n (inputsIn (now (rows .entry)))) (drop n (inputsIn (now (rows .entry)))) (now (out .entry)) (now (scratch .entry))) ⌝ }
+    ensures output { λ _. ⌜ now (out .exit) ≡ fillRows (modulusOf field) m t (take n (inputsIn (now (rows .entry)))) (drop n (inputsIn (now (rows .entry)))) (now (out .entry)) (now (scratch .entry)) .output ⌝ }
+    ensures words { λ _. ⌜ now (scratch .exit) ≡ fillRows (modulusOf field) m t (take n (inputsIn (now (rows .entry)))) (drop n (inputsIn (now (rows .entry)))) (now (out .entry)) (now (scratch .entry)) .scratch ⌝ }
+{
+    let from = 4 * n;
+    let inits = &rows[..from];
+    let ops = &rows[from..];
+    let fault = first_fault(field, m, n, inits, ops, scratch);
+    if fault.number != 0 {
+        words::clear_both(out, scratch);
+        return Filled::Refused(fault.number, fault.place);
+    }
+    Filled::Rows(write_rows(m, n, t, inits, ops, out, scratch))
+}
+
+// The filler on rows that are as many as they should be, with room. Of the scratch words only the
+// first n + 2t are handed on; the others are cleared.
 fn fill_rows(
     field: Modulus,
     m: Memory,
@@ -121,15 +150,9 @@ fn fill_rows(
     ensures output { λ _. ⌜ now (out .exit) ≡ fillRows (modulusOf field) m t (take n (inputsIn (now (rows .entry)))) (drop n (inputsIn (now (rows .entry)))) (now (out .entry)) (now (scratch .entry)) .output ⌝ }
     ensures words { λ _. ⌜ now (scratch .exit) ≡ fillRows (modulusOf field) m t (take n (inputsIn (now (rows .entry)))) (drop n (inputsIn (now (rows .entry)))) (now (out .entry)) (now (scratch .entry)) .scratch ⌝ }
 {
-    let from = 4 * n;
-    let inits = &rows[..from];
-    let ops = &rows[from..];
-    let fault = first_fault(field, m, n, inits, ops, scratch);
-    if fault.number != 0 {
-        words::clear_both(out, scratch);
-        return Filled::Refused(fault.number, fault.place);
-    }
-    Filled::Rows(write_rows(m, n, t, inits, ops, out, scratch))
+    words::clear(scratch);
+    let used = n + 2 * t;
+    fill_within(field, m, n, t, rows, out, &mut scratch[..used])
 }
 
 // 4, 7, 14 and 15, by how long the lent slices are; 0 where there is none.

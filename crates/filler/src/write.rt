@@ -11,7 +11,7 @@ ghost use Rattle.runs.specs.Filler.{inputsIn};
 ghost use Rattle.runs.specs.Honest.{operationsFilled};
 ghost use Rattle.index.specs.Values.{valuesIn};
 ghost use Rattle.layout.specs.Laid.{laid};
-ghost use Rattle.filler.specs.Write.{widthOf, Fillable, Blank, Filled-in, TreeBuilt, Prepared, Ended};
+ghost use Rattle.filler.specs.Write.{widthOf, Fillable, Blank, TreeBuilt, Prepared, Ended};
 
 // How many cells the scratch words hold.
 fn width(m: Memory, n: usize, t: usize) -> usize
@@ -20,19 +20,6 @@ fn width(m: Memory, n: usize, t: usize) -> usize
     match m {
         Memory::Ram | Memory::Rom | Memory::Set => n,
         Memory::Stack | Memory::Queue => t,
-    }
-}
-
-// The init values as the contents of n cells, the times of which are 0.
-fn load(n: usize, inits: &[u64], scratch: &mut [u64])
-    requires { ⌜ (4 * n ≡ length (now inits)) × (n ≤ length (now scratch)) ⌝ }
-    requires { ⌜ Blank (now scratch) ⌝ }
-    ensures { λ _. ⌜ Filled-in n (valuesIn (now (inits .entry))) (now (scratch .exit)) ⌝ }
-{
-    let mut j = 0;
-    while j < n {
-        scratch[j] = inits[4 * j + 3];
-        j += 1;
     }
 }
 
@@ -52,7 +39,7 @@ pub(crate) fn prepare(m: Memory, n: usize, inits: &[u64], scratch: &mut [u64])
     ensures { λ _. ⌜ Prepared m n (now (inits .entry)) (now (scratch .exit)) ⌝ }
 {
     match m {
-        Memory::Ram => load(n, inits, scratch),
+        Memory::Ram => {}
         Memory::Rom => {}
         Memory::Set => build_tree(n, inits, scratch),
         Memory::Stack => {}
@@ -107,5 +94,5 @@ pub(crate) fn rows_after(
     let at = operations(m, n, t, inits, ops, out, scratch);
     let from = 7 * t;
     let w = width(m, n, t);
-    t + ends::finish(m, w, t, at, inits, scratch, &mut out[from..])
+    t + ends::finish(m, w, t, at, inits, ops, scratch, &mut out[from..])
 }

@@ -6,21 +6,14 @@
 -- Assumes nothing.
 use Prim.Native.Nat.{ℕ, _+_, _*_, _/_, _%_, _<_}
 use native.Mathlib.Omega.{arith}
-use native.Mathlib.Nat.{mod-lt, mod-eq-of-lt, mod-mod, div-eq-of-lt, mul-add-div-right, mul-add-mod-self-right}
+use native.Mathlib.Nat.{mod-lt, mod-eq-of-lt, mod-mod}
 use mathlib.Core.Bool.{Bool, true, false, cond}
 use mathlib.Core.Path.{_≡_, refl, sym, ap, _∙_}
 use lib.Dec.{eqb}
 use borrow.Author.Tests.{eqb-true, eqb-false}
 use Rattle.memory.specs.Rows.{limit}
+use Rattle.words.proofs.Parts.{high-part, low-part}
 use Rattle.index.specs.Tree.{sideOf, joined}
-
--- two numbers below q in one
-module _ (q a b : ℕ) (some : 0 < q) (low : b < q) where
-  high-part : (a * q + b) / q ≡ a
-  high-part = let e = div-eq-of-lt low in mul-add-div-right some a b ∙ omega arith
-
-  low-part : (a * q + b) % q ≡ b
-  low-part = mul-add-mod-self-right a q b ∙ mod-eq-of-lt low
 
 limit-some : 0 < limit
 unfolding limit

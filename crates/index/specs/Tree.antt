@@ -1,5 +1,6 @@
 -- A digital search tree over a list of values, of one word a value. Node j holds the value at place j, and node 0 is the root. A word packs the two
 -- children of its node as left · 65,536 + right. A search goes left where its key is even and right where it is odd, and halves the key.
+-- What stands in a word above the two children is not looked at.
 -- Assumes nothing.
 use Prim.Native.Nat.{ℕ, zero, suc, _+_, _-_, _*_, _/_, _%_, _≤_, _<_}
 use mathlib.Core.Bool.{_&&_, cond}

@@ -1,1 +1,4 @@
 pub mod Written
+pub mod Parts
+pub mod Packed
+pub mod Counted

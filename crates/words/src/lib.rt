@@ -1,11 +1,14 @@
 // Rows in slices of words: 4 words an input row of the filler, 7 words an output row. Every function is total: past the end of a slice a word reads as 0, and
-// nothing is written.
+// nothing is written. Module cells has the words of cells, and module counts those of keys.
+pub mod cells;
+pub mod counts;
+
 ghost use mathlib.Core.Path.{_≡_};
 ghost use mathlib.Core.List.{[], _∷_};
 ghost use Prim.Native.Nat.{_*_, _≤_};
 ghost use lib.ListN.{length, getD, set, replicate};
 ghost use lib.Seq.{sets};
-ghost use Rattle.words.specs.Inputs.{wordsAt};
+ghost use Rattle.words.specs.Inputs.{wordsAt, valueAt};
 
 // Every word becomes 0.
 pub fn clear(words: &mut [u64])
@@ -86,6 +89,14 @@ pub fn read(rows: &[u64], k: usize) -> Input
         };
     }
     cut_row(rows, k)
+}
+
+// The value of input row k.
+pub fn value(rows: &[u64], k: usize) -> u64
+    ensures { λ r. ⌜ r ≡ valueAt (now (rows .entry)) k ⌝ }
+{
+    let row = read(rows, k);
+    row.value
 }
 
 // "Op, guard, addr and value are copied": the first four words of an output row, from a place on.

@@ -43,7 +43,7 @@ rows-after-requires c κs = let at = c .before .before .before .before .before .
         starting = f .starting;
         operating = f .operating;
         out-room = omega (arith, ap length (part-lent out (7 * at .n)), length-drop (7 * at .n) out, length-drop (7 * at .n) (at .out .now), c .before .before .before .before .copy-inits .kept, f .out-room);
-        scratch-room = f .scratch-room;
+        scratch-used = f .scratch-used;
         modulus = f .modulus;
         clean = f .clean;
       },

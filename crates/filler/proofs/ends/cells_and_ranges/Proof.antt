@@ -20,9 +20,6 @@ mul-from c = search needs
 mul-range-rows : tie.Need-mul-range-rows
 mul-range-rows c = search needs
 
-mul-range-rows-2 : tie.Need-mul-range-rows-2
-mul-range-rows-2 c = search needs
-
 sub-range-rows : tie.Need-sub-range-rows
 sub-range-rows c = search needs
 
@@ -36,23 +33,23 @@ range-rows-requires : tie.Need-range-rows-requires
 range-rows-requires c κs = search needs
 
 add-result : tie.Need-add-result
-add-result c = let at = c .before .before .before .before .before .before .before .before .before .before .args in omega (arith, c .before .before .before .before .before .before .cell-ends .ensures .1, cells-count (at .w) 0 (at .count) (at .scratch .now))
+add-result c = let at = c .before .before .before .before .before .before .before .before .before .before .before .before .args in omega (arith, c .before .before .before .before .before .before .cell-ends .ensures .1, cells-count (at .inits .now) (at .ops .now) 0 (at .count) (at .scratch .now))
 
 same-length : tie.Need-same-length
 same-length c = search needs
 
 returns : tie.Need-returns
 returns c =
-    let at = c .before .before .before .before .before .before .before .before .before .before .args in
-    let cells = cellEnds (at .w) 0 (at .count) (at .scratch .now) in
-    let rest = ranges (2 * at .w) (at .t) (at .scratch .now) in
-    let many = cells-count (at .w) 0 (at .count) (at .scratch .now) in (
-      laid-handed-on (at .out .now) (c .before .before .before .before .before .before .cell-ends .last .1 .1 .1 .1 .0) (c .before .before .range-rows .last .1 .1 .1 .0) (7 * at .count) cells rest
+    let at = c .before .before .before .before .before .before .before .before .before .before .before .before .args in
+    let cells = cellEnds (at .inits .now) (at .ops .now) 0 (at .count) (at .scratch .now) in
+    let rest = ranges (at .w) (at .t) (at .scratch .now) in
+    let many = cells-count (at .inits .now) (at .ops .now) 0 (at .count) (at .scratch .now) in (
+      laid-handed-on (at .out .now) (c .before .before .before .before .before .before .cell-ends .last .1 .1 .1 .1 .1 .0) (c .before .before .range-rows .last .1 .1 .1 .0) (7 * at .count) cells rest
           (c .before .before .before .before .before .before .cell-ends .ensures .0)
           (ap (λ (n : ℕ). 7 * n) (sym many))
           (omega arith)
           (c .before .before .range-rows .ensures),
-      omega (arith, c .before .before .before .before .before .before .cell-ends .ensures .1, length-append cells rest, ranges-count (2 * at .w) (at .t) (at .scratch .now)),
+      omega (arith, c .before .before .before .before .before .before .cell-ends .ensures .1, length-append cells rest, ranges-count (at .w) (at .t) (at .scratch .now)),
     )
 
 pub cells-and-ranges-spec : {M : Type 1} → statement M
@@ -62,7 +59,6 @@ cells-and-ranges-spec =
     cell-ends-requires
     mul-from
     mul-range-rows
-    mul-range-rows-2
     sub-range-rows
     part-range-rows-start
     part-range-rows-end

@@ -28,39 +28,39 @@ looked-fits Set w t at inits s out h f = f
 looked-fits Stack w t at inits s out h f = absurd (omega (arith, one-or-two 3 h))
 looked-fits Queue w t at inits s out h f = absurd (omega (arith, one-or-two 4 h))
 
-looked-ending : (m : Memory) (w t : ℕ) (at : Cursor) (inits s : List ℕ) → OneOf (1 ∷ 2 ∷ []) (tagOf the-type m) → valueEnds w (valuesIn inits) s ≡ ending m w t at inits s
+looked-ending : (m : Memory) (w t : ℕ) (at : Cursor) (inits ops s : List ℕ) → OneOf (1 ∷ 2 ∷ []) (tagOf the-type m) → valueEnds 0 (valuesIn inits) s ≡ ending m w t at inits ops s
 unfolding ending
-looked-ending Ram w t at inits s h = absurd (omega (arith, one-or-two 0 h))
-looked-ending Rom w t at inits s h = refl
-looked-ending Set w t at inits s h = refl
-looked-ending Stack w t at inits s h = absurd (omega (arith, one-or-two 3 h))
-looked-ending Queue w t at inits s h = absurd (omega (arith, one-or-two 4 h))
+looked-ending Ram w t at inits ops s h = absurd (omega (arith, one-or-two 0 h))
+looked-ending Rom w t at inits ops s h = refl
+looked-ending Set w t at inits ops s h = refl
+looked-ending Stack w t at inits ops s h = absurd (omega (arith, one-or-two 3 h))
+looked-ending Queue w t at inits ops s h = absurd (omega (arith, one-or-two 4 h))
 
 enum-told : tie.Need-enum-told
 enum-told c = search needs
 
 cells-and-ranges-requires : tie.Need-cells-and-ranges-requires
-cells-and-ranges-requires c κs = rw (c .before .enum-told .given .1) at (c .before .before .before .before .before .before .pre)
+cells-and-ranges-requires c κs = rw (c .before .enum-told .given .1) at (c .before .before .before .before .before .before .before .pre)
 
 value-ends-requires : tie.Need-value-ends-requires
 value-ends-requires c κs =
-    let at = c .before .before .before .before .before .args in
-    looked-fits (at .m) (at .w) (at .t) (at .at) (at .inits .now) (at .scratch .now) (at .out .now) (c .before .match .keys2) (c .before .before .before .before .before .pre)
+    let at = c .before .before .before .before .before .before .args in
+    looked-fits (at .m) (at .w) (at .t) (at .at) (at .inits .now) (at .scratch .now) (at .out .now) (c .before .match .keys2) (c .before .before .before .before .before .before .pre)
 
 enum-told-2 : tie.Need-enum-told-2
 enum-told-2 c = search needs
 
 cells-and-ranges-requires-2 : tie.Need-cells-and-ranges-requires-2
-cells-and-ranges-requires-2 c κs = rw (c .before .enum-told2 .given .1) at (c .before .before .before .before .before .before .pre)
+cells-and-ranges-requires-2 c κs = rw (c .before .enum-told2 .given .1) at (c .before .before .before .before .before .before .before .pre)
 
 enum-told-3 : tie.Need-enum-told-3
 enum-told-3 c = search needs
 
 sub-cell-ends : tie.Need-sub-cell-ends
-sub-cell-ends c = let fit = rw (c .before .enum-told3 .given .1) at (c .before .before .before .before .before .before .pre) in omega arith
+sub-cell-ends c = let fit = rw (c .before .enum-told3 .given .1) at (c .before .before .before .before .before .before .before .pre) in omega arith
 
 cell-ends-requires : tie.Need-cell-ends-requires
-cell-ends-requires c κs = let fit = rw (c .before .before .enum-told3 .given .1) at (c .before .before .before .before .before .before .before .pre) in omega arith
+cell-ends-requires c κs = let fit = rw (c .before .before .enum-told3 .given .1) at (c .before .before .before .before .before .before .before .before .pre) in omega arith
 
 same-length : tie.Need-same-length
 same-length c = search needs
@@ -74,8 +74,8 @@ same-length-2 c = search needs
 
 returns-2 : tie.Need-returns-2
 returns-2 c =
-    let at = c .before .before .before .before .before .before .before .before .args in
-    let rows = looked-ending (at .m) (at .w) (at .t) (at .at) (at .inits .now) (at .scratch .now) (c .before .before .before .before .match .keys2) in
+    let at = c .before .before .before .before .before .before .before .before .before .args in
+    let rows = looked-ending (at .m) (at .w) (at .t) (at .at) (at .inits .now) (at .ops .now) (at .scratch .now) (c .before .before .before .before .match .keys2) in
     (c .before .before .value-ends .ensures .0 ∙ ap (λ (l : List Row). laid (at .out .now) 0 l) rows, c .before .before .value-ends .ensures .1 ∙ ap (λ (l : List Row). length l) rows)
 
 same-length-3 : tie.Need-same-length-3

@@ -9,31 +9,31 @@ enum-told : tie.Need-enum-told
 enum-told c = search needs
 
 ram-requires : tie.Need-ram-requires
-ram-requires c κs = rw (c .before .enum-told .given .1) at (c .before .before .before .before .before .pre)
+ram-requires c κs = rw (c .before .enum-told .given .1) at (c .before .before .before .before .before .before .pre)
 
 enum-told-2 : tie.Need-enum-told-2
 enum-told-2 c = search needs
 
 rom-requires : tie.Need-rom-requires
-rom-requires c κs = rw (c .before .enum-told2 .given .1) at (c .before .before .before .before .before .pre)
+rom-requires c κs = rw (c .before .enum-told2 .given .1) at (c .before .before .before .before .before .before .pre)
 
 enum-told-3 : tie.Need-enum-told-3
 enum-told-3 c = search needs
 
 member-requires : tie.Need-member-requires
-member-requires c κs = rw (c .before .enum-told3 .given .1) at (c .before .before .before .before .before .pre)
+member-requires c κs = rw (c .before .enum-told3 .given .1) at (c .before .before .before .before .before .before .pre)
 
 enum-told-4 : tie.Need-enum-told-4
 enum-told-4 c = search needs
 
 stack-requires : tie.Need-stack-requires
-stack-requires c κs = rw (c .before .enum-told4 .given .1) at (c .before .before .before .before .before .pre)
+stack-requires c κs = rw (c .before .enum-told4 .given .1) at (c .before .before .before .before .before .before .pre)
 
 enum-told-5 : tie.Need-enum-told-5
 enum-told-5 c = search needs
 
 queue-requires : tie.Need-queue-requires
-queue-requires c κs = rw (c .before .enum-told5 .given .1) at (c .before .before .before .before .before .pre)
+queue-requires c κs = rw (c .before .enum-told5 .given .1) at (c .before .before .before .before .before .before .pre)
 
 same-length : tie.Need-same-length
 same-length c = search needs

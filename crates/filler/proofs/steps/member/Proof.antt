@@ -1,11 +1,10 @@
 -- `filler::steps::member` meets its contract.
 -- Assumes nothing.
-use Prim.Native.Nat.{ℕ, _+_}
+use Prim.Native.Nat.{ℕ}
 use native.Mathlib.Omega.{arith}
 use mathlib.Core.Path.{sym, subst, _∙_}
-use lib.ListN.{take}
 use lib.Seq.{length-take-le}
-use Rattle.filler.specs.Steps.{Countable, setTold}
+use Rattle.filler.specs.Steps.{KeyCountable, setTold}
 use Rattle.filler.proofs.Members.{tree-finds}
 use borrow.Author.Needs.{needs}
 use Rattle.filler.proofs.steps.member.Statement.{statement}
@@ -15,23 +14,26 @@ slice-reshare-prefix-find : tie.Need-slice-reshare-prefix-find
 slice-reshare-prefix-find c = search needs
 
 slice-aggregate-find : tie.Need-slice-aggregate-find
-slice-aggregate-find c = sym (length-take-le (c .before .before .before .args .w) (c .before .before .before .args .scratch .now) (omega (arith, c .before .before .before .pre .countable .inside)))
+slice-aggregate-find c = sym (length-take-le (c .before .before .before .args .w) (c .before .before .before .args .scratch .now) (omega (arith, c .before .before .before .pre .tree .room)))
 
 find-requires : tie.Need-find-requires
 find-requires c κs = search needs
 
-add-looked : tie.Need-add-looked
-add-looked c = omega (arith, c .find .ensures, tree-finds (c .before .before .before .before .args .value) (c .before .before .before .before .args .w) (c .before .before .before .before .args .inits .now) (take (c .before .before .before .before .args .w) (c .before .before .before .before .args .scratch .now)) (c .before .before .before .before .pre .tree), c .before .before .before .before .pre .countable .inside)
-
-looked-requires : tie.Need-looked-requires
-looked-requires c κs = let ready = subst (λ (key : ℕ). Countable (c .before .before .before .before .before .args .scratch .now) (c .before .before .before .before .before .args .w + key)) (sym (c .before .find .ensures ∙ tree-finds (c .before .before .before .before .before .args .value) (c .before .before .before .before .before .args .w) (c .before .before .before .before .before .args .inits .now) (take (c .before .before .before .before .before .args .w) (c .before .before .before .before .before .args .scratch .now)) (c .before .before .before .before .before .pre .tree))) (c .before .before .before .before .before .pre .countable) in (ready .inside, ready .low)
+key-looked-requires : tie.Need-key-looked-requires
+key-looked-requires c κs =
+    let at = c .before .before .before .before .before .args in
+    let key = c .before .find .ensures ∙ tree-finds (at .value) (at .w) (at .inits .now) (at .scratch .now) (c .before .before .before .before .before .pre .tree) in
+    let ready = subst (λ (k : ℕ). KeyCountable (at .scratch .now) k) (sym key) (c .before .before .before .before .before .pre .countable) in (ready .inside, ready .low)
 
 same-length : tie.Need-same-length
 same-length c = search needs
 
 returns : tie.Need-returns
 unfolding setTold
-returns c = let key = c .before .before .before .before .find .ensures ∙ tree-finds (c .before .before .before .before .before .before .before .before .args .value) (c .before .before .before .before .before .before .before .before .args .w) (c .before .before .before .before .before .before .before .before .args .inits .now) (take (c .before .before .before .before .before .before .before .before .args .w) (c .before .before .before .before .before .before .before .before .args .scratch .now)) (c .before .before .before .before .before .before .before .before .pre .tree) in record { advice = simp (c .before .before .looked .ensures .0, key); kept = simp (c .before .before .looked .ensures .1, key) }
+returns c =
+    let at = c .before .before .before .before .before .before .before .before .args in
+    let key = c .before .before .before .before .find .ensures ∙ tree-finds (at .value) (at .w) (at .inits .now) (at .scratch .now) (c .before .before .before .before .before .before .before .before .pre .tree) in
+    record { advice = simp (c .before .before .key-looked .ensures .0, key); kept = simp (c .before .before .key-looked .ensures .1, key) }
 
 pub member-spec : {M : Type 1} → statement M
 member-spec =
@@ -40,7 +42,6 @@ member-spec =
     slice-reshare-prefix-find
     slice-aggregate-find
     find-requires
-    add-looked
-    looked-requires
+    key-looked-requires
     same-length
     returns)

@@ -7,7 +7,7 @@ use Rattle.filler.proofs.steps.queue.Statement.{statement}
 use Rattle.filler.proofs.steps.queue.Tie as tie
 
 enqueue-requires : tie.Need-enqueue-requires
-enqueue-requires c κs = c .before .before .before .before .pre .enqueue (c .before .if1 .taken)
+enqueue-requires c κs = c .before .before .before .before .before .before .pre .enqueue (c .before .if1 .taken)
 
 same-length : tie.Need-same-length
 same-length c = search needs
@@ -17,7 +17,7 @@ unfolding queueTold
 returns c = record { advice = simp (c .before .before .enqueue .ensures .advice, eq-eqb _ _ (c .before .before .before .before .if1 .taken)); kept = simp (c .before .before .enqueue .ensures .kept, eq-eqb _ _ (c .before .before .before .before .if1 .taken)) }
 
 dequeue-requires : tie.Need-dequeue-requires
-dequeue-requires c κs = c .before .before .before .before .pre .dequeue (c .before .if1 .left)
+dequeue-requires c κs = c .before .before .before .before .before .before .pre .dequeue (c .before .if1 .left)
 
 same-length-2 : tie.Need-same-length-2
 same-length-2 c = search needs

@@ -7,7 +7,7 @@ use Rattle.filler.proofs.steps.stack.Statement.{statement}
 use Rattle.filler.proofs.steps.stack.Tie as tie
 
 push-requires : tie.Need-push-requires
-push-requires c κs = c .before .before .before .before .pre .push (c .before .if1 .taken)
+push-requires c κs = c .before .before .before .before .before .before .pre .push (c .before .if1 .taken)
 
 same-length : tie.Need-same-length
 same-length c = search needs
@@ -17,7 +17,7 @@ unfolding stackTold
 returns c = record { advice = simp (c .before .before .push .ensures .advice, eq-eqb _ _ (c .before .before .before .before .if1 .taken)); kept = simp (c .before .before .push .ensures .kept, eq-eqb _ _ (c .before .before .before .before .if1 .taken)) }
 
 pop-requires : tie.Need-pop-requires
-pop-requires c κs = c .before .before .before .before .pre .pop (c .before .if1 .left)
+pop-requires c κs = c .before .before .before .before .before .before .pre .pop (c .before .if1 .left)
 
 same-length-2 : tie.Need-same-length-2
 same-length-2 c = search needs

@@ -7,9 +7,6 @@ use Rattle.filler.proofs.write.prepare.Tie as tie
 enum-told : tie.Need-enum-told
 enum-told c = search needs
 
-load-requires : tie.Need-load-requires
-load-requires c κs = search needs
-
 enum-told-2 : tie.Need-enum-told-2
 enum-told-2 c = search needs
 
@@ -25,17 +22,14 @@ enum-told-4 c = search needs
 enum-told-5 : tie.Need-enum-told-5
 enum-told-5 c = search needs
 
-same-length : tie.Need-same-length
-same-length c = search needs
-
 returns : tie.Need-returns
-returns c = rw (c .before .before .before .before .enum-told .given .1) (c .before .before .load .ensures)
+returns c = rw (c .enum-told .given .1) (c .before .before .before .before .pre .1)
 
 returns-2 : tie.Need-returns-2
 returns-2 c = rw (c .enum-told2 .given .1) (c .before .before .before .before .pre .1)
 
-same-length-2 : tie.Need-same-length-2
-same-length-2 c = search needs
+same-length : tie.Need-same-length
+same-length c = search needs
 
 returns-3 : tie.Need-returns-3
 returns-3 c = rw (c .before .before .before .before .enum-told3 .given .1) (c .before .before .build-tree .ensures)
@@ -51,16 +45,14 @@ prepare-spec =
     tie.close
     (tie.spec
     enum-told
-    load-requires
     enum-told-2
     enum-told-3
     build-tree-requires
     enum-told-4
     enum-told-5
-    same-length
     returns
     returns-2
-    same-length-2
+    same-length
     returns-3
     returns-4
     returns-5)

@@ -23,7 +23,7 @@ operations-requires c κs = let f = c .before .before .before .before .before .b
     starting = f .starting;
     operating = f .operating;
     out-room = f .out-room;
-    scratch-room = omega (arith, f .scratch-room);
+    scratch-used = f .scratch-used;
     modulus = f .modulus;
     clean = f .clean;
   },
@@ -62,9 +62,9 @@ add-result c = let at = c .before .before .before .before .before .before .befor
     let out = c .before .before .before .before .before .before .before .before .before .before .operations .last .1 .1 .1 .1 .1 .0 in
     let s = c .before .before .before .before .before .before .before .before .before .before .operations .last .1 .1 .1 .1 .1 .1 .0 in
     let done = c .before .before .before .before .before .before .before .before .before .before .operations .ensures in
-    let few = ending-room (at .m) (widthOf (at .m) (at .n) (at .t)) (at .t) (c .before .before .before .before .before .before .before .before .before .before .operations .result) (at .inits .now) s (drop (7 * at .t) out) (done .fits) in
-    let count : c .before .before .finish .result ≡ length (ending (at .m) (widthOf (at .m) (at .n) (at .t)) (at .t) (c .before .before .before .before .before .before .before .before .before .before .operations .result) (at .inits .now) s) =
-    c .before .before .finish .ensures .1 ∙ ap (λ (w : ℕ). length (ending (at .m) w (at .t) (c .before .before .before .before .before .before .before .before .before .before .operations .result) (at .inits .now) s)) (c .before .before .before .before .before .width .ensures) in
+    let few = ending-room (at .m) (widthOf (at .m) (at .n) (at .t)) (at .t) (c .before .before .before .before .before .before .before .before .before .before .operations .result) (at .inits .now) (at .ops .now) s (drop (7 * at .t) out) (done .fits) in
+    let count : c .before .before .finish .result ≡ length (ending (at .m) (widthOf (at .m) (at .n) (at .t)) (at .t) (c .before .before .before .before .before .before .before .before .before .before .operations .result) (at .inits .now) (at .ops .now) s) =
+    c .before .before .finish .ensures .1 ∙ ap (λ (w : ℕ). length (ending (at .m) w (at .t) (c .before .before .before .before .before .before .before .before .before .before .operations .result) (at .inits .now) (at .ops .now) s)) (c .before .before .before .before .before .width .ensures) in
     omega (arith, few, count, length-drop (7 * at .t) out, c .before .before .before .before .before .before .before .before .before .before .operations .kept, c .before .before .before .before .before .before .before .before .before .before .before .before .before .before .before .before .before .good, c .before .before .before .before .before .before .before .before .before .before .before .before .before .before .before .before .before .pre)
 
 same-length : tie.Need-same-length
@@ -78,15 +78,15 @@ returns c = let at = c .before .before .before .before .before .before .before .
     let out = c .before .before .before .before .before .before .before .before .before .before .operations .last .1 .1 .1 .1 .1 .0 in
     let s = c .before .before .before .before .before .before .before .before .before .before .operations .last .1 .1 .1 .1 .1 .1 .0 in
     let done = c .before .before .before .before .before .before .before .before .before .before .operations .ensures in
-    let few = ending-room (at .m) (widthOf (at .m) (at .n) (at .t)) (at .t) (c .before .before .before .before .before .before .before .before .before .before .operations .result) (at .inits .now) s (drop (7 * at .t) out) (done .fits) in
-    let count : c .before .before .finish .result ≡ length (ending (at .m) (widthOf (at .m) (at .n) (at .t)) (at .t) (c .before .before .before .before .before .before .before .before .before .before .operations .result) (at .inits .now) s) =
-    c .before .before .finish .ensures .1 ∙ ap (λ (w : ℕ). length (ending (at .m) w (at .t) (c .before .before .before .before .before .before .before .before .before .before .operations .result) (at .inits .now) s)) (c .before .before .before .before .before .width .ensures) in (
-      laid-lent out _ (7 * at .t) (ending (at .m) (c .before .before .before .before .before .width .result) (at .t) (c .before .before .before .before .before .before .before .before .before .before .operations .result) (at .inits .now) s) (omega (arith, c .before .before .before .before .before .before .before .before .before .before .operations .kept, c .before .before .before .before .before .before .before .before .before .before .before .before .before .before .before .before .before .pre .0 .out-room)) (c .before .before .finish .ensures .0)
-          ∙ ap (λ (w : ℕ). laid out (7 * at .t) (ending (at .m) w (at .t) (c .before .before .before .before .before .before .before .before .before .before .operations .result) (at .inits .now) s)) (c .before .before .before .before .before .width .ensures)
+    let few = ending-room (at .m) (widthOf (at .m) (at .n) (at .t)) (at .t) (c .before .before .before .before .before .before .before .before .before .before .operations .result) (at .inits .now) (at .ops .now) s (drop (7 * at .t) out) (done .fits) in
+    let count : c .before .before .finish .result ≡ length (ending (at .m) (widthOf (at .m) (at .n) (at .t)) (at .t) (c .before .before .before .before .before .before .before .before .before .before .operations .result) (at .inits .now) (at .ops .now) s) =
+    c .before .before .finish .ensures .1 ∙ ap (λ (w : ℕ). length (ending (at .m) w (at .t) (c .before .before .before .before .before .before .before .before .before .before .operations .result) (at .inits .now) (at .ops .now) s)) (c .before .before .before .before .before .width .ensures) in (
+      laid-lent out _ (7 * at .t) (ending (at .m) (c .before .before .before .before .before .width .result) (at .t) (c .before .before .before .before .before .before .before .before .before .before .operations .result) (at .inits .now) (at .ops .now) s) (omega (arith, c .before .before .before .before .before .before .before .before .before .before .operations .kept, c .before .before .before .before .before .before .before .before .before .before .before .before .before .before .before .before .before .pre .0 .out-room)) (c .before .before .finish .ensures .0)
+          ∙ ap (λ (w : ℕ). laid out (7 * at .t) (ending (at .m) w (at .t) (c .before .before .before .before .before .before .before .before .before .before .operations .result) (at .inits .now) (at .ops .now) s)) (c .before .before .before .before .before .width .ensures)
           ∙ sym (done .whole),
       (
         ap (λ (c : ℕ). at .t + c) (c .before .before .finish .ensures .1)
-            ∙ ap (λ (w : ℕ). at .t + length (ending (at .m) w (at .t) (c .before .before .before .before .before .before .before .before .before .before .operations .result) (at .inits .now) s)) (c .before .before .before .before .before .width .ensures)
+            ∙ ap (λ (w : ℕ). at .t + length (ending (at .m) w (at .t) (c .before .before .before .before .before .before .before .before .before .before .operations .result) (at .inits .now) (at .ops .now) s)) (c .before .before .before .before .before .width .ensures)
             ∙ sym (done .counted),
         omega (arith, few, count, length-drop (7 * at .t) out, c .before .before .before .before .before .before .before .before .before .before .operations .kept, c .before .before .before .before .before .before .before .before .before .before .before .before .before .before .before .before .before .good, c .before .before .before .before .before .before .before .before .before .before .before .before .before .before .before .before .before .pre),
       ),
