@@ -275,10 +275,7 @@ module _ (p k : ℕ) (prime : Prime (suc p)) where
 -- more than m · q ^ k challenges
 pub shuffle-bound : ShuffleBound
 shuffle-bound zero k m xs ys prime lx ly bx by = absurd (omega (arith, prime .two))
-shuffle-bound (suc p) k m xs ys prime lx ly bx by = split (ℕ-discrete (length xs) (length ys))
-  where
-    split :
-        Dec (length xs ≡ length ys)
-        → EquallyOften xs ys ⊎ (agreements (suc p) k xs ys ≤ m * suc p ^ k)
-    split (yes e) = ⊎-map (λ h. h) (λ b. le-trans b (mul-le-mul-right (suc p ^ k) lx)) (equal-lengths-bound p k prime xs ys e bx by)
-    split (no n) = inr (lengths-bound p prime k m xs ys lx ly n)
+shuffle-bound (suc p) k m xs ys prime lx ly bx by = elim (ℕ-discrete (length xs) (length ys)) [
+  | yes e ↦ ⊎-map (λ h. h) (λ b. le-trans b (mul-le-mul-right (suc p ^ k) lx)) (equal-lengths-bound p k prime xs ys e bx by)
+  | no n ↦ inr (lengths-bound p prime k m xs ys lx ly n)
+]
