@@ -1,4 +1,6 @@
 // The answer of a checker, in the part of its state that no challenge enters: whether rows are still taken, a refusal, and the end of file.
+#![tactic(auto)]
+
 ghost use Rattle.std.specs.Prelude.{◌≡◌};
 ghost use Rattle.memory.specs.Step.{takes_rows, refuse_next, refuse_last, accepting, closed};
 

@@ -1,5 +1,7 @@
 // The program `check`: reads standard input to its end and prints the two lines of the report. A failed read is told on standard error, with nothing on
 // standard output; so is a failed write.
+#![tactic(auto)]
+
 use field::moduli::Modulus;
 use stdio::Read;
 use stream::Progress;

@@ -1,4 +1,6 @@
 // Rows to an answer: the fresh state of a value line, one row, the end of file, and what is printed of a state.
+#![tactic(auto)]
+
 use field::moduli::Modulus;
 use memory::{Challenge, Context, Lent, Memory, Parsed, Products, Report, State, numbers};
 use rules::counters;

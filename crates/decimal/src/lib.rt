@@ -1,5 +1,7 @@
 // Numbers of a line: a comma, and after it a number in unsigned decimal. Section "The file" of document 01: "Numbers are unsigned decimal".
 // Every slice is read, whatever it holds.
+#![tactic(auto)]
+
 ghost use Rattle.std.specs.Prelude.{◌≡◌, ◌+◌, ◌-◌, ◌≤◌, min, length, drop};
 ghost use Rattle.decimal.specs.Numbers.{run, digits_of, number_from};
 
@@ -14,14 +16,14 @@ const ZERO: u8 = 48;
 const MOST: usize = 10;
 
 // A run of digits: the number that they stand for, and the position after them.
-#[derive(Drop)]
+#[derive(Clone, Copy)]
 struct Run {
     value: u64,
     next: usize,
 }
 
 // What a comma and the field after it read as: a number and the position after it.
-#[derive(Drop)]
+#[derive(Clone, Copy)]
 pub enum Number {
     Read(u64, usize),
     Unread,

@@ -1,4 +1,6 @@
 // Which rows are due: "decided by the memory and by how many have passed".
+#![tactic(auto)]
+
 ghost use Rattle.std.specs.Prelude.{◌≡◌, ◌-◌};
 ghost use Rattle.memory.specs.Rows.{ends_due, ranges_due, ops_due, op_in};
 ghost use Rattle.memory.specs.Step.{due, phase};
@@ -8,7 +10,7 @@ use memory::{Context, Memory, Op, Phase};
 use rules::ops;
 
 // The ops that may come next.
-#[derive(Drop)]
+#[derive(Clone, Copy)]
 pub(crate) enum Allowed {
     Nothing,
     One(Op),

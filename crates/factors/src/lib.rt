@@ -1,4 +1,6 @@
 // The products and hashes after a row: section "The equations" of document 01, one function for each op. Those of rows that write no record of the memory are in module reads.
+#![tactic(auto)]
+
 use field::moduli::Modulus;
 use memory::{Challenge, Context, Memory, Op, Products, Row};
 use records::{ages, by_pair, by_triple};

@@ -1,5 +1,7 @@
 // The first fault of the input rows: "then each row 3, 5, 6, 11, 12, 13, place its number from 1". Nothing is written: of a ram and a rom the number of cells
 // matters, of a stack and a queue the depth, of a set its search tree. The number of cells, or the depth, is the level.
+#![tactic(auto)]
+
 ghost use Rattle.std.specs.Prelude.{◌≡◌, ◌^◌, ◌<◌};
 ghost use Rattle.field.specs.Moduli.{modulus_of};
 ghost use Rattle.runs.specs.Filler.{inputs_in};
@@ -13,7 +15,7 @@ use rules::ops;
 use words::Input;
 
 // The number and the place of a fault; 0 and 0 where there is none.
-#[derive(Drop)]
+#[derive(Clone, Copy)]
 pub struct Fault {
     pub number: u32,
     pub place: usize,

@@ -1,6 +1,8 @@
 // The field of document 01: the integers modulo p = 2³¹ − 1. Elements are u32, and every public
 // operation takes any u32, reduced or not. `wide` has the field modulo 2⁶¹ − 1, and `moduli` the
 // modulus that a check computes with.
+#![tactic(auto)]
+
 ghost use Rattle.std.specs.Prelude.{◌≡◌, ◌*◌, ◌%◌, ◌^◌, ◌≤◌, ◌<◌};
 ghost use Rattle.algebra.specs.Prime.{Prime};
 ghost use Rattle.field.specs.Field.{p, elements_of, challenges_of, add_of, sub_of, mul_of, triple_of, pair_of, horner_of};
@@ -9,7 +11,7 @@ ghost use Rattle.field.specs.Fold.{fold_of};
 pub mod moduli;
 pub mod wide;
 
-#[derive(Drop)]
+#[derive(Clone, Copy)]
 pub struct Field;
 
 impl Field {

@@ -10,7 +10,7 @@ use crate::Field;
 use crate::wide::Field61;
 
 // What a check computes modulo: 2³¹ − 1, 2⁶¹ − 1, or a small number.
-#[derive(Drop)]
+#[derive(Clone, Copy)]
 pub enum Modulus {
     M31,
     M61,

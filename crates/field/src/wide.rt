@@ -7,7 +7,7 @@ ghost use Rattle.field.specs.Field.{elements_of, challenges_of, add_of, sub_of, 
 ghost use Rattle.field.specs.Fold.{fold_of};
 ghost use Rattle.field.specs.Wide.{p61};
 
-#[derive(Drop)]
+#[derive(Clone, Copy)]
 pub struct Field61;
 
 impl Field61 {

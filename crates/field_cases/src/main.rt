@@ -2,6 +2,8 @@
 // edge the products with all edges modulo 2⁶¹ − 1, one to a line, and digests of every operation on
 // all triples of edges; then for each block of 1,000 random triples of numbers of 64 bits, and as
 // many of 32, the digests after them. There are five: of each field, and of each of three moduli.
+#![tactic(auto)]
+
 use field::Field;
 use field::moduli::Modulus;
 use field::wide::Field61;
@@ -91,7 +93,7 @@ fn of_modulus(k: Modulus, d: u64, x: u64, y: u64, z: u64) -> u64 {
 }
 
 // A digest of every operation of each field, and one for each of three moduli.
-#[derive(Drop)]
+#[derive(Clone, Copy)]
 struct Digests {
     pub smaller: u64,
     pub larger: u64,
@@ -157,7 +159,7 @@ fn edges(before: Digests) -> Digests {
 }
 
 // Where the random numbers are, and what they have come to.
-#[derive(Drop)]
+#[derive(Clone, Copy)]
 struct Drawn {
     pub at: u64,
     pub digests: Digests,

@@ -1,5 +1,7 @@
 // A line to its fields: a name, told by its key, and numbers. Section "The file" of document 01, and 2 and 3 of section "The numbers".
 // `read` takes the bytes of a line before its line feed, and whether the line feed is there. Every slice is read, whatever it holds.
+#![tactic(auto)]
+
 ghost use Rattle.std.specs.Prelude.{◌≡◌, length};
 ghost use Rattle.field.specs.Moduli.{modulus_of};
 ghost use Rattle.fields.specs.Keyed.{taken_of, fields_taken};
@@ -13,7 +15,7 @@ pub const LONGEST: usize = 80;
 // What a line reads as: the key of its name, and whether its numbers, which are in the slice that
 // was lent, are all below the modulus (3 where they are not). `Unread` is 2; which numbers the
 // slice then holds is free; it is as long as it was.
-#[derive(Drop)]
+#[derive(Clone, Copy)]
 pub enum Found {
     Read { key: u64, below: bool },
     Unread,

@@ -1,5 +1,7 @@
 // The lines of the filling program's input: its two names lines, its value line of three fields and its row line of four. Section "The filler" of document 01.
 // Each takes the bytes of a line before its line feed, and whether the line feed is there. Every slice is read, whatever it holds.
+#![tactic(auto)]
+
 ghost use Rattle.std.specs.Prelude.{◌≡◌, get_or};
 ghost use Rattle.field.specs.Moduli.{modulus_of};
 ghost use Rattle.memory.specs.Names.{fill_names, input_names};
@@ -21,7 +23,7 @@ use rules::sizes;
 pub const LIMIT: u64 = 128;
 
 // What the value line reads as: its values, or its fault 2, 3 or 4.
-#[derive(Drop)]
+#[derive(Clone, Copy)]
 pub enum Task {
     Fill {
         memory: Memory,
@@ -32,7 +34,7 @@ pub enum Task {
 }
 
 // What a row line reads as: a row, or its fault 2 or 3.
-#[derive(Drop)]
+#[derive(Clone, Copy)]
 pub enum Given {
     Row {
         op: Op,

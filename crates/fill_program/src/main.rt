@@ -1,5 +1,7 @@
 // The program `fill`: reads standard input to its end and prints the filled file from line 3 on, or a refusal. A failed read is told on standard error, with
 // nothing on standard output; so is a failed write.
+#![tactic(auto)]
+
 use field::moduli::Modulus;
 use fillfile::Progress;
 use stdio::Read;

@@ -1,4 +1,6 @@
 // Operations to advice: the filler's library. Rows are numbers in slices: 4 words an input row, 7 words an output row.
+#![tactic(auto)]
+
 use faults::Fault;
 use field::moduli::Modulus;
 use memory::{Memory, numbers};
@@ -20,14 +22,14 @@ ghost use Rattle.faults.specs.Scan.{placed_of};
 ghost use Rattle.filler.specs.Write.{CleanInits, Fillable, Prepared, Blank, Within};
 
 // What a fill comes to: how many rows it wrote, or the number and the place of its refusal.
-#[derive(Drop)]
+#[derive(Clone, Copy)]
 pub enum Filled {
     Rows(usize),
     Refused(u32, usize),
 }
 
 // The memory that a number stands for.
-#[derive(Drop)]
+#[derive(Clone, Copy)]
 enum Known {
     Is(Memory),
     Unknown,

@@ -13,7 +13,7 @@ use memory::Memory;
 use words::{Input, cells, counts};
 
 // The clock, and where the cells begin and end that a stack or a queue holds.
-#[derive(Drop)]
+#[derive(Clone, Copy)]
 pub(crate) struct Cursor {
     pub clock: u64,
     pub head: usize,
@@ -21,7 +21,7 @@ pub(crate) struct Cursor {
 }
 
 // The advice of an operation, and the cursor after it.
-#[derive(Drop)]
+#[derive(Clone, Copy)]
 pub(crate) struct Advice {
     pub old: u64,
     pub time: u64,

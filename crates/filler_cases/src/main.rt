@@ -1,5 +1,7 @@
 // Cases of the filler's library that the filling program cannot meet: buffers too short, buffers lent dirty, codes and lengths that no file has. Prints for
 // each case the number and place of its refusal or its row count, and then the words of both buffers.
+#![tactic(auto)]
+
 use field::moduli::Modulus;
 use filler::Filled;
 use libc::STDOUT_FILENO;

@@ -1,5 +1,7 @@
 // The filling program's library: from the bytes of its input, read in pieces, to the bytes that it prints. Section "The filler" of document 01.
 // A caller keeps one buffer for the input and one for the words of the rows: `start`, then for each block `advance`, and `finish` at the end of input.
+#![tactic(auto)]
+
 use field::moduli::Modulus;
 use runs::Intake;
 use text::Put;
@@ -32,7 +34,7 @@ pub const TEXT: usize = 85797;
 // Between two pieces of the input: the modulus that it is filled for, what its lines left, and how
 // many bytes of the line that is being read stand at the front of the caller's buffer. The caller
 // puts the bytes that follow behind them.
-#[derive(Drop)]
+#[derive(Clone, Copy)]
 pub struct Progress {
     pub field: Modulus,
     pub intake: Intake,

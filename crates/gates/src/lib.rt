@@ -1,4 +1,6 @@
 // The gates of a row: section "Gates of an accepted file" of document 01.
+#![tactic(auto)]
+
 ghost use Rattle.std.specs.Prelude.{◌≡◌};
 ghost use Rattle.memory.specs.Gates.{row_inputs, row_mults};
 

@@ -1,11 +1,13 @@
 // The place of the first element of a set that equals a value: "equal set elements give all lookups to the first". A digital search tree over the init
 // values, of one word an element, finds it. The elements are values of init rows in a slice, 4 words a row.
+#![tactic(auto)]
+
 ghost use Rattle.std.specs.Prelude.{◌≡◌, ◌+◌, ◌*◌, ◌<◌};
 ghost use Rattle.index.specs.Values.{values_in};
 ghost use Rattle.index.specs.Tree.{Rows, side_of, joined, child_at, stop_of, found, inserted, grown};
 
 // Where a search ends: the node, and what is left of the key there.
-#[derive(Drop)]
+#[derive(Clone, Copy)]
 pub(crate) struct Stop {
     pub node: usize,
     pub key: u64,

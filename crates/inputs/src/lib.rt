@@ -1,4 +1,6 @@
 // An input row of the filler by its form: 3, 5 and 6 of the numbers, which are tested before 11 to 13.
+#![tactic(auto)]
+
 ghost use Rattle.std.specs.Prelude.{[], ◌∷◌, ◌≡◌};
 ghost use Rattle.field.specs.Moduli.{modulus_of};
 ghost use Rattle.memory.specs.Bytes.{all_below};

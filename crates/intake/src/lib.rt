@@ -1,4 +1,6 @@
 // The filling program's input, line by line, from the bytes of a block to an intake and the words of its rows. Section "The filler" of document 01.
+#![tactic(auto)]
+
 use field::moduli::Modulus;
 use memory::{HEAD_LINES, numbers};
 use runs::Intake;
@@ -32,7 +34,7 @@ pub fn line_of(place: usize) -> u32
 }
 
 // Between two lines of a block, of which some bytes are used.
-#[derive(Drop)]
+#[derive(Clone, Copy)]
 pub struct Taken {
     pub intake: Intake,
     pub used: usize,

@@ -1,5 +1,7 @@
 // Names as keys: the key of a line's name, and the op or the memory that it stands for. Section "The file" of document 01: "The memory is `ram`, `rom`, `set`, `stack` or `queue`."
 // Every slice is read, whatever it holds.
+#![tactic(auto)]
+
 ghost use Rattle.std.specs.Prelude.{◌≡◌, ◌+◌, length, drop};
 ghost use Rattle.keys.specs.Keys.{first, name_of, op_keyed, memory_keyed, known_of};
 
@@ -10,14 +12,14 @@ use memory::{Memory, Op};
 const LONGEST_NAME: usize = 7;
 
 // The first field of a line: its key, and the position after it.
-#[derive(Drop)]
+#[derive(Clone, Copy)]
 pub struct Name {
     pub key: u64,
     pub next: usize,
 }
 
 // Whether a name is that of a memory; `Unknown` is 4.
-#[derive(Drop)]
+#[derive(Clone, Copy)]
 pub enum Known {
     Is(Memory),
     Unknown,

@@ -1,5 +1,7 @@
 // The lines of a checked file: its two names lines, its value line and a row line. Sections "The file" and "The numbers" of document 01.
 // Each takes the bytes of a line before its line feed, and whether the line feed is there. Every slice is read, whatever it holds.
+#![tactic(auto)]
+
 ghost use Rattle.std.specs.Prelude.{◌≡◌, get_or};
 ghost use Rattle.field.specs.Moduli.{modulus_of};
 ghost use Rattle.memory.specs.Names.{value_names, row_names};
@@ -16,7 +18,7 @@ use memory::{Challenge, Memory, Op, Parsed, Row, numbers};
 use rules::sizes;
 
 // What a value line reads as: its values, or its fault 2, 3 or 4.
-#[derive(Drop)]
+#[derive(Clone, Copy)]
 pub enum Opened {
     Opens {
         memory: Memory,
@@ -28,7 +30,7 @@ pub enum Opened {
 }
 
 // What a names line reads as: the names, or its fault 1 or 2.
-#[derive(Drop)]
+#[derive(Clone, Copy)]
 pub enum Named {
     Names,
     Fault(u32),

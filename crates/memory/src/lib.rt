@@ -1,4 +1,6 @@
 // The types that the definitions of document 01 and the code share. There is no code here: definitions and statements are in specs/, proofs in proofs/.
+#![tactic(auto)]
+
 use field::moduli::Modulus;
 
 pub mod names;
@@ -10,7 +12,7 @@ pub const HEAD_LINES: u32 = 3;
 pub const FIRST_LINE: u32 = HEAD_LINES + 1;
 
 // "The memory is `ram`, `rom`, `set`, `stack` or `queue`."
-#[derive(Drop)]
+#[derive(Clone, Copy)]
 pub enum Memory {
     Ram,
     Rom,
@@ -20,7 +22,7 @@ pub enum Memory {
 }
 
 // The op of a row; `Other` is any name that document 01 does not have.
-#[derive(Drop)]
+#[derive(Clone, Copy)]
 pub enum Op {
     Init,
     Access,
@@ -36,7 +38,7 @@ pub enum Op {
 }
 
 // Where a row stands: among the init rows, the operations, the end rows or the range rows, or past the last due row.
-#[derive(Drop)]
+#[derive(Clone, Copy)]
 pub enum Phase {
     Starting,
     Operating,
@@ -46,7 +48,7 @@ pub enum Phase {
 }
 
 // A row, in the columns `op,guard,addr,value,old,time,version`.
-#[derive(Drop)]
+#[derive(Clone, Copy)]
 pub struct Row {
     pub op: Op,
     pub guard: u64,
@@ -58,7 +60,7 @@ pub struct Row {
 }
 
 // "A challenge is four elements r, a, b, c."
-#[derive(Drop)]
+#[derive(Clone, Copy)]
 pub struct Challenge {
     pub r: u64,
     pub a: u64,
@@ -67,14 +69,14 @@ pub struct Challenge {
 }
 
 // What a row line reads as: a row, or its fault 2 or 3.
-#[derive(Drop)]
+#[derive(Clone, Copy)]
 pub enum Parsed {
     Sound(Row),
     Fault(u32),
 }
 
 // The part of a checker's state that no challenge enters.
-#[derive(Drop)]
+#[derive(Clone, Copy)]
 pub struct Context {
     pub memory: Memory,
     pub size: u32,
@@ -96,7 +98,7 @@ pub struct Context {
 }
 
 // The running products and hashes of a checker's state.
-#[derive(Drop)]
+#[derive(Clone, Copy)]
 pub struct Products {
     pub written: u64,
     pub read: u64,
@@ -106,7 +108,7 @@ pub struct Products {
     pub dequeued: u64,
 }
 
-#[derive(Drop)]
+#[derive(Clone, Copy)]
 pub struct State {
     pub context: Context,
     pub challenge: Challenge,
@@ -114,14 +116,14 @@ pub struct State {
 }
 
 // A state and the modulus that it computes with: what is lent to a checker.
-#[derive(Drop)]
+#[derive(Clone, Copy)]
 pub struct Lent {
     pub field: Modulus,
     pub state: State,
 }
 
 // What a check prints: answer, line, inputs, multiplications.
-#[derive(Drop)]
+#[derive(Clone, Copy)]
 pub struct Report {
     pub answer: u64,
     pub line: u64,
@@ -130,7 +132,7 @@ pub struct Report {
 }
 
 // What the lines of a checked file leave.
-#[derive(Drop)]
+#[derive(Clone, Copy)]
 pub struct Stand {
     // the number of the next line, FIRST_LINE for all rows
     pub place: u32,

@@ -1,4 +1,6 @@
 // What a row that has passed changes of the context: counters, the queue's product of depths, gates; and the fault of a row.
+#![tactic(auto)]
+
 ghost use Rattle.std.specs.Prelude.{◌≡◌, ◌&&◌, ◌+◌, eqb, leb};
 ghost use Rattle.algebra.specs.Modulo.{times};
 ghost use Rattle.field.specs.Moduli.{modulus_of};
@@ -10,7 +12,7 @@ use memory::{Context, Memory, Op, Row, numbers};
 use rules::{columns, counters, ops};
 
 // What becomes of a row: its fault, or 0, and the context after it.
-#[derive(Drop)]
+#[derive(Clone, Copy)]
 pub struct Judged {
     pub fault: u32,
     pub next: Context,

@@ -1,4 +1,6 @@
 // Lines in bytes that come in pieces: where a line ends, and what is kept of one that is not ended.
+#![tactic(auto)]
+
 ghost use Rattle.std.specs.Prelude.{◌≡◌, ◌+◌, length, drop};
 ghost use Rattle.pieces.specs.Block.{until_feed, rest_of, fronted};
 

@@ -1,4 +1,6 @@
 // Answers and rows to bytes: rows, the report and the refusal, put into a lent slice from a position on as crate text puts them. Every function is total.
+#![tactic(auto)]
+
 ghost use Rattle.std.specs.Prelude.{◌≡◌, ◌<◌, [], ◌∷◌, ◌++◌, length};
 ghost use Rattle.memory.specs.Bytes.{feed};
 ghost use Rattle.memory.specs.Names.{op_name, row_names};

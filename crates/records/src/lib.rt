@@ -1,4 +1,6 @@
 // The factors of records, and what stands in them: places of rows, ages. "A triple (x, y, z) gives the factor r − (a·x + b·y + c·z); a pair gives r − (a·x + b·y)."
+#![tactic(auto)]
+
 use field::moduli::Modulus;
 use memory::Challenge;
 

@@ -6,7 +6,7 @@ ghost use Rattle.rules.specs.Columns.{columns_of};
 use memory::{Memory, Op, Row};
 
 // The columns that a row may use.
-#[derive(Drop)]
+#[derive(Clone, Copy)]
 pub(crate) struct Used {
     pub guard: bool,
     pub addr: bool,

@@ -54,7 +54,7 @@ ram_split cells clock ages t (i ∷ is) = ap {B = List Row} (λ l. ram_row cells
 pub ram_inputs : (cells : List Cell) (clock : ℕ) (ages : List ℕ) (is : List Input) → map input_of (ram_ops cells clock ages is) ≡ is
 unfolding ram_ops ram_row filled_row input_of
 ram_inputs cells clock ages [] = refl
-ram_inputs cells clock ages (i ∷ is) = ap {B = List Input} (λ l. i ∷ l) (ram_inputs _ _ _ is)
+ram_inputs cells clock ages (i ∷ is) = ap {B = List Input} (λ l. i ∷ l) (ram_inputs (ram_cells cells clock i) _ _ is)
 
 -- how many they are
 ops_length : (cells : List Cell) (clock : ℕ) (ages : List ℕ) (is : List Input) → length (ram_ops cells clock ages is) ≡ length is

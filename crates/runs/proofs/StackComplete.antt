@@ -101,13 +101,13 @@ stack_filled cells clock ages t (i ∷ is) =
 pub stack_inputs : (cells : List Cell) (clock : ℕ) (ages : List ℕ) (is : List Input) → map input_of (stack_ops cells clock ages is) ≡ is
 unfolding stack_ops stack_row filled_row input_of
 stack_inputs cells clock ages [] = refl
-stack_inputs cells clock ages (i ∷ is) = ap {B = List Input} (λ l. i ∷ l) (stack_inputs _ _ _ is)
+stack_inputs cells clock ages (i ∷ is) = ap {B = List Input} (λ l. i ∷ l) (stack_inputs (stack_cells cells clock i) _ _ is)
 
 -- one row for each
 pub stack_length : (cells : List Cell) (clock : ℕ) (ages : List ℕ) (is : List Input) → length (stack_ops cells clock ages is) ≡ length is
 unfolding stack_ops
 stack_length cells clock ages [] = refl
-stack_length cells clock ages (i ∷ is) = ap suc (stack_length _ _ _ is)
+stack_length cells clock ages (i ∷ is) = ap suc (stack_length (stack_cells cells clock i) _ _ is)
 
 -- ages looked up one list after the other
 ages_after_append : (ages xs ys : List ℕ) → ages_after ages (xs ++ ys) ≡ ages_after (ages_after ages xs) ys

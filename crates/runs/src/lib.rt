@@ -1,8 +1,10 @@
 // The type that the definitions of the filling program's input and the code share. There is no code here: definitions and statements are in specs/, proofs in proofs/.
+#![tactic(auto)]
+
 use memory::Memory;
 
 // What the lines of the filling program's input leave.
-#[derive(Drop)]
+#[derive(Clone, Copy)]
 pub struct Intake {
     // the number of the next line, 4 for all rows
     pub place: u32,

@@ -1,4 +1,6 @@
 // One whole line of a file: line 1, the value line, line 3, and the rows.
+#![tactic(auto)]
+
 ghost use Rattle.std.specs.Prelude.{◌≡◌, ◌<◌};
 ghost use Rattle.field.specs.Moduli.{modulus_of};
 ghost use Rattle.memory.specs.File.{first_line, parse_values};

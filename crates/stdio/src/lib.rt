@@ -1,5 +1,7 @@
 // Standard input, read behind the kept bytes of a lent buffer, and standard output. What fails is told on standard error. Every function is total.
 // Which bytes a read brings, and what becomes of bytes that are written, no contract can say.
+#![tactic(auto)]
+
 ghost use Rattle.std.specs.Prelude.{◌≡◌, ◌+◌, ◌-◌, ◌≤◌, ◌<◌, min, length, take};
 ghost use Rattle.stdio.specs.Read.{block, read_of, ReadBehind};
 ghost use Rattle.stdio.specs.Write.{WriteFirst};
@@ -10,7 +12,7 @@ use libc::{STDIN_FILENO, STDOUT_FILENO};
 pub const BLOCK: usize = 65536;
 
 // What one read came to: the buffer is filled up to a position; or the input has ended; or the read failed.
-#[derive(Drop)]
+#[derive(Clone, Copy)]
 pub enum Read {
     Filled(usize),
     Ended,
@@ -19,7 +21,7 @@ pub enum Read {
 
 // What one write came to: the text is shorter than it should be, and nothing is written; or all of
 // it is written; or the write failed.
-#[derive(Drop)]
+#[derive(Clone, Copy)]
 pub enum Wrote {
     Short,
     Whole,

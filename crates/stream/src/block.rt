@@ -7,7 +7,7 @@ use field::moduli::Modulus;
 use memory::Stand;
 
 // Between two lines of a block, of which some bytes are used.
-#[derive(Drop)]
+#[derive(Clone, Copy)]
 pub struct Taken {
     pub stand: Stand,
     pub used: usize,

@@ -1,5 +1,7 @@
 // A file in pieces, and whole. A caller that reads a file block by block keeps one buffer: `start`, then for each block `advance`, and at the end of input `finish`, or `print_end` for the two lines that
 // `check` prints.
+#![tactic(auto)]
+
 use field::moduli::Modulus;
 use memory::{Report, Stand, numbers};
 use text::Put;
@@ -19,7 +21,7 @@ ghost use Rattle.stream.specs.Progress.{begun, left_by};
 // Between two pieces of a file: the modulus that it is checked with, what its lines left, and how
 // many bytes of the line that is being read stand at the front of the caller's buffer. The caller
 // puts the bytes that follow behind them.
-#[derive(Drop)]
+#[derive(Clone, Copy)]
 pub struct Progress {
     pub field: Modulus,
     pub stand: Stand,

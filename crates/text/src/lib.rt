@@ -1,5 +1,7 @@
 // Bytes and numbers put into a lent slice from a position on. Every function is total. Where a text runs past the slice's end the answer is Full, and the slice
 // holds as much of the text as there is room for.
+#![tactic(auto)]
+
 ghost use Rattle.std.specs.Prelude.{◌≡◌, length};
 ghost use Rattle.memory.specs.Print.{number_text};
 ghost use Rattle.text.specs.Put.{put_of, put_after, written, written_after};
@@ -10,7 +12,7 @@ const ZERO: u8 = 48;
 const MOST: usize = 20;
 
 // The position after what was put, or that it did not fit.
-#[derive(Drop)]
+#[derive(Clone, Copy)]
 pub enum Put {
     At(usize),
     Full,

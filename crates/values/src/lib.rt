@@ -1,5 +1,7 @@
 // 3 and 4 of the numbers: whether six numbers are below the modulus, and the fault of a value
 // line's values.
+#![tactic(auto)]
+
 ghost use Rattle.std.specs.Prelude.{◌≡◌, [], ◌∷◌};
 ghost use Rattle.field.specs.Moduli.{modulus_of};
 ghost use Rattle.memory.specs.Bytes.{all_below};

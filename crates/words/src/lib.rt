@@ -1,5 +1,7 @@
 // Rows in slices of words: 4 words an input row of the filler, 7 words an output row. Every function is total: past the end of a slice a word reads as 0, and
 // nothing is written. Module cells has the words of cells, and module counts those of keys.
+#![tactic(auto)]
+
 pub mod cells;
 pub mod counts;
 
@@ -44,7 +46,7 @@ pub fn store(words: &mut [u64], at: usize, word: u64)
 }
 
 // The words of an input row, in the columns `op,guard,addr,value`.
-#[derive(Drop)]
+#[derive(Clone, Copy)]
 pub struct Input {
     pub op: u64,
     pub guard: u64,

@@ -1,0 +1,14 @@
+-- `field::moduli::Modulus::reduce` meets its contract.
+-- Assumes nothing.
+use mathlib.Core.Path.{refl}
+use Rattle.field.proofs.Variants.{at31, at61, at_small}
+use Rattle.field.proofs.moduli.Modulus.reduce.Goals as goal
+
+pub returns-in-M31 : goal.returns-in-M31
+returns-in-M31 c = rw (at31 c.in-M31.is) c.reduce.ensures
+
+pub returns-in-M61 : goal.returns-in-M61
+returns-in-M61 c = rw (at61 c.in-M61.is) c.reduce-in-M61.ensures
+
+pub returns-in-Small : goal.returns-in-Small
+returns-in-Small c = rw (at_small c.in-Small.is c.small.ensures.0) refl
