@@ -23,7 +23,7 @@ pub enum Found {
 
 // What a line reads as that is to have a name and as many numbers as are lent.
 pub fn read(k: Modulus, text: &[u8], ended: bool, numbers: &mut [u64]) -> Found
-    ensures answer { taken_of numbers.new result ≡ fields_taken (modulus_of k) (length numbers.old) (record { text = text.entry.now; ended = ended }) }
+    ensures answer { taken_of numbers.new result ≡ fields_taken (modulus_of k) (length numbers.old) (record { text = text.now; ended = ended }) }
     ensures many { length numbers.new ≡ length numbers.old }
 {
     let q = k.modulus();

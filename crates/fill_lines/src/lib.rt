@@ -73,7 +73,7 @@ fn task_of(known: Known, values: &[u64]) -> Task
 
 // What the value line reads as.
 pub fn job_line(k: Modulus, text: &[u8], ended: bool) -> Task
-    ensures { task_of result ≡ parse_job (modulus_of k) (record { text = text.entry.now; ended = ended }) }
+    ensures { task_of result ≡ parse_job (modulus_of k) (record { text = text.now; ended = ended }) }
 {
     let mut values = [0u64; 2];
     let Found::Read { key, below } = fields::read(k, text, ended, &mut values) else {
@@ -99,7 +99,7 @@ fn given_row(op: Op, columns: &[u64]) -> Given
 
 // What a row line reads as.
 pub fn input_line(k: Modulus, text: &[u8], ended: bool) -> Given
-    ensures { given_of result ≡ parse_input (modulus_of k) (record { text = text.entry.now; ended = ended }) }
+    ensures { given_of result ≡ parse_input (modulus_of k) (record { text = text.now; ended = ended }) }
 {
     let mut columns = [0u64; 3];
     let Found::Read { key, below } = fields::read(k, text, ended, &mut columns) else {
@@ -113,14 +113,14 @@ pub fn input_line(k: Modulus, text: &[u8], ended: bool) -> Given
 
 // What line 1 reads as.
 pub fn fill_names_line(text: &[u8], ended: bool) -> Named
-    ensures { result ≡ named_of (names_fault fill_names (record { text = text.entry.now; ended = ended })) }
+    ensures { result ≡ named_of (names_fault fill_names (record { text = text.now; ended = ended })) }
 {
     lines::names_line(&FILL_NAMES, text, ended)
 }
 
 // What line 3 reads as.
 pub fn input_names_line(text: &[u8], ended: bool) -> Named
-    ensures { result ≡ named_of (names_fault input_names (record { text = text.entry.now; ended = ended })) }
+    ensures { result ≡ named_of (names_fault input_names (record { text = text.now; ended = ended })) }
 {
     lines::names_line(&INPUT_NAMES, text, ended)
 }

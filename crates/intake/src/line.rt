@@ -56,7 +56,7 @@ fn task_fault(task: Task) -> u32
 
 // The value line: its values, or refused with its number on line 2.
 fn opened(field: Modulus, intake: Intake, text: &[u8], ended: bool) -> Intake
-    ensures { result ≡ job_taken intake (parse_job (modulus_of field) (record { text = text.entry.now; ended = ended })) }
+    ensures { result ≡ job_taken intake (parse_job (modulus_of field) (record { text = text.now; ended = ended })) }
 {
     let read = fill_lines::job_line(field, text, ended);
     let Task::Fill {
@@ -136,7 +136,7 @@ fn given_fault(given: Given) -> u32
 
 // A row line; a surplus one is 7.
 fn row(field: Modulus, intake: Intake, text: &[u8], ended: bool, words: &mut [u64]) -> Intake
-    ensures { gathered result words.new ≡ row_taken (modulus_of field) (gathered intake words.old) (record { text = text.entry.now; ended = ended }) }
+    ensures { gathered result words.new ≡ row_taken (modulus_of field) (gathered intake words.old) (record { text = text.now; ended = ended }) }
 {
     if due(intake) <= intake.passed as usize {
         return refuse_row(intake, numbers::NOT_COMPLETE);
@@ -156,7 +156,7 @@ fn row(field: Modulus, intake: Intake, text: &[u8], ended: bool, words: &mut [u6
 
 // Any line: after a fault nothing is read.
 pub fn line(field: Modulus, intake: Intake, text: &[u8], ended: bool, words: &mut [u64]) -> Intake
-    ensures { gathered result words.new ≡ line_taken (modulus_of field) (gathered intake words.old) (record { text = text.entry.now; ended = ended }) }
+    ensures { gathered result words.new ≡ line_taken (modulus_of field) (gathered intake words.old) (record { text = text.now; ended = ended }) }
 {
     if intake.answer != 0 {
         return intake;

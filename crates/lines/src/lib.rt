@@ -63,7 +63,7 @@ fn row_of(op: Op, columns: &[u64]) -> Row
 
 // What a row line reads as: a row, or its fault 2 or 3.
 pub fn row_line(k: Modulus, text: &[u8], ended: bool) -> Parsed
-    ensures { result ≡ parse_row (modulus_of k) (record { text = text.entry.now; ended = ended }) }
+    ensures { result ≡ parse_row (modulus_of k) (record { text = text.now; ended = ended }) }
 {
     let mut columns = [0u64; 6];
     let Found::Read { key, below } = fields::read(k, text, ended, &mut columns) else {
@@ -102,7 +102,7 @@ fn opened_by(known: Known, values: &[u64]) -> Opened
 
 // What a value line reads as: its values, or its fault 2, 3 or 4.
 pub fn value_line(k: Modulus, text: &[u8], ended: bool) -> Opened
-    ensures { opening_of result ≡ parse_values (modulus_of k) (record { text = text.entry.now; ended = ended }) }
+    ensures { opening_of result ≡ parse_values (modulus_of k) (record { text = text.now; ended = ended }) }
 {
     let mut values = [0u64; 6];
     let Found::Read { key, below } = fields::read(k, text, ended, &mut values) else {
@@ -116,7 +116,7 @@ pub fn value_line(k: Modulus, text: &[u8], ended: bool) -> Opened
 
 // What a line that is to be these names reads as.
 pub fn names_line(names: &[u8], text: &[u8], ended: bool) -> Named
-    ensures { result ≡ named_of (names_fault names.now (record { text = text.entry.now; ended = ended })) }
+    ensures { result ≡ named_of (names_fault names.now (record { text = text.now; ended = ended })) }
 {
     if text.len() != names.len() {
         return Named::Fault(numbers::NOT_NAMES);
@@ -137,14 +137,14 @@ pub fn names_line(names: &[u8], text: &[u8], ended: bool) -> Named
 
 // What line 1 reads as.
 pub fn value_names_line(text: &[u8], ended: bool) -> Named
-    ensures { result ≡ named_of (names_fault value_names (record { text = text.entry.now; ended = ended })) }
+    ensures { result ≡ named_of (names_fault value_names (record { text = text.now; ended = ended })) }
 {
     names_line(&VALUE_NAMES, text, ended)
 }
 
 // What line 3 reads as.
 pub fn row_names_line(text: &[u8], ended: bool) -> Named
-    ensures { result ≡ named_of (names_fault row_names (record { text = text.entry.now; ended = ended })) }
+    ensures { result ≡ named_of (names_fault row_names (record { text = text.now; ended = ended })) }
 {
     names_line(&ROW_NAMES, text, ended)
 }

@@ -57,7 +57,7 @@ fn shut_number(opened: Opened) -> u32
 
 // The state that the value line makes: fresh, or refused with its number on line 2.
 fn opened(k: Modulus, text: &[u8], ended: bool) -> State
-    ensures { result ≡ opened_of (modulus_of k) (parse_values (modulus_of k) (record { text = text.entry.now; ended = ended })) }
+    ensures { result ≡ opened_of (modulus_of k) (parse_values (modulus_of k) (record { text = text.now; ended = ended })) }
 {
     let read = lines::value_line(k, text, ended);
     let Opened::Opens {
@@ -74,7 +74,7 @@ fn opened(k: Modulus, text: &[u8], ended: bool) -> State
 
 // Line 3: where the value line was refused, the file keeps that answer.
 fn row_names(state: State, text: &[u8], ended: bool) -> Stand
-    ensures { result ≡ row_names_read state (record { text = text.entry.now; ended = ended }) }
+    ensures { result ≡ row_names_read state (record { text = text.now; ended = ended }) }
 {
     if !answers::takes_rows(state.context) {
         return Stand {
@@ -87,7 +87,7 @@ fn row_names(state: State, text: &[u8], ended: bool) -> Stand
 
 // Any line.
 pub fn line(k: Modulus, stand: Stand, text: &[u8], ended: bool) -> Stand
-    ensures { result ≡ line_of (modulus_of k) stand (record { text = text.entry.now; ended = ended }) }
+    ensures { result ≡ line_of (modulus_of k) stand (record { text = text.now; ended = ended }) }
 {
     let place = stand.place;
     match place {
