@@ -12,28 +12,14 @@ use Rattle.keys.proofs.Keys.{Bytes}
 use Rattle.lines.proofs.Parse.{on_keyed, values_keyed}
 use Rattle.lines.proofs.value_line.Goals as goal
 
--- a slice of bytes
-bytes : (c : tie.After-shared-slice-known) → Bytes c.before.args.text.now
-bytes c i = omega (arith, c.shared-slice-known.given i)
-
--- the fields of a line that meets neither 2 nor 3
-key_is :
-    (c : tie.Else1)
-    → let s = c.before.before.before.before.before in
-    let a = s.before.before.before.args in
-    keyed c.before.before.key.given.0.0 s.read.new.1.1.1.0 ≡ by_key (fields_of (modulus_of a.k) 7 (record { text = a.text.now; ended = a.ended }))
-key_is c =
-    let s = c.before.before.before.before.before in
-    says_key _ _ _ _ s.read.ensures.0 c.before.before.key.given.1 (not-false _ c.if1.false)
-
 pub returns-in_default : goal.returns-in_default
 unfolding on_keyed opening_of
-returns-in_default c = values_keyed _ _ (bytes s.before.before) (says_unread _ _ _ _ c.read.ensures.answer c.in_default.is)
+returns-in_default c = values_keyed _ _ (λ i. omega (arith, c.type_inv.text i)) (says_unread _ _ _ _ c.read.ensures.answer c.in_default.is)
 
 pub returns-then-not-below : goal.returns-then-not-below
 unfolding on_keyed opening_of
-returns-then-not-below c = values_keyed _ _ (bytes s.before.before) (says_large _ _ _ _ c.read.ensures.answer c.in-Read.is c.if-not-below.true)
+returns-then-not-below c = values_keyed _ _ (λ i. omega (arith, c.type_inv.text i)) (says_large _ _ _ _ c.read.ensures.answer c.in-Read.is c.if-not-below.true)
 
 pub returns : goal.returns
 unfolding on_keyed
-returns c = c.opened_by.ensures ∙ rw c.memory_of.ensures (values_keyed _ _ (bytes k.before.before.before.before.before.before.before) (key_is k))
+returns c = c.opened_by.ensures ∙ rw c.memory_of.ensures (values_keyed _ _ (λ i. omega (arith, c.type_inv.text i)) (says_key _ _ _ _ c.read.ensures.answer c.in-Read.is c.if-not-below.false))
