@@ -1,9 +1,9 @@
 -- The numbers of the rows that the filler writes are elements, and their ops have names: so lines can hold them.
 -- Assumes nothing.
-use Prim.Native.Nat.{ℕ, zero, suc, ◌+◌, ◌≤◌, ◌<◌}
+use Prim.Native.Nat.{ℕ, zero, suc, ◌+◌, ◌-◌, ◌≤◌, ◌<◌}
 use native.Mathlib.Omega.{arith}
 use mathlib.Core.Path.{◌≡◌, refl}
-use mathlib.Core.Bool.{true, false}
+use mathlib.Core.Bool.{true, false, cond}
 use mathlib.Core.List.{List, [], ◌∷◌, ◌++◌, map}
 use lib.Dec.{eqb, ltb}
 use lib.ListN.{length, get_or, drop, set}
@@ -221,11 +221,11 @@ stack_printable q cells clock ages t (i ∷ is) soon few h due =
     let value = (input_below q Stack Operating i due.0).2 in
     chosen (AllPrintable q) (is_op i.op Push) (
       bare_printable q Stack Operating i (omega arith) due.0,
-      stack_printable q _ (clock + i.guard) ages t is (omega arith) (omega arith)
+      stack_printable q (cond (eqb i.guard 1) (cell i.value clock ∷ cells) cells) (clock + i.guard) ages t is (omega arith) (omega arith)
           (chosen (All (CellBelow q)) (eqb i.guard 1) (cell_below q i.value clock value (omega arith), h) h) due.1,
     ) (
       pop_printable q cells clock ages i (omega arith) (omega arith) h due.0,
-      stack_printable q _ clock (_ ∷ ages) t is (omega arith) (omega arith)
+      stack_printable q (cond (eqb i.guard 1) (drop 1 cells) cells) clock ((clock - pop_time cells clock i) ∷ ages) t is (omega arith) (omega arith)
           (chosen (All (CellBelow q)) (eqb i.guard 1) (all_rest (CellBelow q) cells h) h) due.1,
     )
 
@@ -242,11 +242,11 @@ queue_printable q content [] positive h due = queue_ends_printable q content pos
 queue_printable q content (i ∷ is) positive h due =
     chosen (AllPrintable q) (is_op i.op Enqueue) (
       bare_printable q Queue Operating i positive due.0,
-      queue_printable q _ is positive
+      queue_printable q (cond (eqb i.guard 1) (content ++ i.value ∷ []) content) is positive
           (chosen (All (ContentBelow q)) (eqb i.guard 1) (all_then (ContentBelow q) content i.value h (input_below q Queue Operating i due.0).2) h) due.1,
     ) (
       filled_printable q Queue Operating i _ 0 0 due.0 (chosen (ContentBelow q) (eqb i.guard 1) (all_at (ContentBelow q) content 0 no_content h (positive, refl)) (positive, refl)) positive positive,
-      queue_printable q _ is positive (chosen (All (ContentBelow q)) (eqb i.guard 1) (all_rest (ContentBelow q) content h) h) due.1,
+      queue_printable q (cond (eqb i.guard 1) (drop 1 content) content) is positive (chosen (All (ContentBelow q)) (eqb i.guard 1) (all_rest (ContentBelow q) content h) h) due.1,
     )
 
 -- the init values are elements, and so are the cells of a ram that hold them

@@ -28,7 +28,7 @@ use Rattle.memory.specs.Equations.{lists_of, file_lists}
 use Rattle.runs.specs.Plain.{Trace, Operation, start, all_fit, right, operation_of, trace_of}
 use Rattle.memory.specs.File.{rows_of, refusal, first_fault}
 use Rattle.runs.specs.Advised.{Advised}
-use Rattle.runs.specs.Honest.{Input, input_of, filled_row, bare, end_row, range_row, occurrences, range_rows_from, Cell, pop_time, ram_row, ram_ends, rom_ends_from, set_ends_from, stack_ends, operations_filled, filled_rows, possible}
+use Rattle.runs.specs.Honest.{Input, input_of, filled_row, bare, end_row, range_row, occurrences, range_rows_from, Cell, pop_time, ram_row, ram_cells, ram_ends, rom_ends_from, set_ends_from, stack_ends, operations_filled, filled_rows, possible}
 use Rattle.memory.proofs.Content.{Single}
 use Rattle.demands.specs.Statements.{HonestRows, RefusedNotRight}
 use Rattle.runs.proofs.Inputs.{Inputs, input_at, input_cases}
@@ -36,8 +36,8 @@ use Rattle.runs.proofs.HonestLookups.{honest, rom_row, rom_ops, rom_final, rom_r
 use Rattle.runs.proofs.RamCells.{start_cells}
 use Rattle.runs.proofs.RamComplete.{ram_ops, ram_inputs, ram_final_ages, ram_op_rows, ram_end_rows, ram_range_rows, ram_rows, ram_op_rows_length, ram_end_rows_length, ranges_length}
 use Rattle.runs.proofs.RamRight.{ram_right_possible, ram_right_same}
-use Rattle.runs.proofs.StackComplete.{stack_row, stack_inputs, stack_ops, stack_final_ages, stack_op_rows, stack_end_rows, stack_range_rows, stack_filled, stack_length, stack_not_below, stack_ends_due, stack_right_possible, stack_right_operations}
-use Rattle.runs.proofs.QueueComplete.{queue_row, queue_inputs, queue_ops, queue_final, queue_ends, queue_filled, queue_length, queue_nonzero, queue_ends_due, queue_right_possible, queue_right_operations}
+use Rattle.runs.proofs.StackComplete.{stack_row, stack_cells, stack_inputs, stack_ops, stack_final_ages, stack_op_rows, stack_end_rows, stack_range_rows, stack_filled, stack_length, stack_not_below, stack_ends_due, stack_right_possible, stack_right_operations}
+use Rattle.runs.proofs.QueueComplete.{queue_row, queue_content, queue_inputs, queue_ops, queue_final, queue_ends, queue_filled, queue_length, queue_nonzero, queue_ends_due, queue_right_possible, queue_right_operations}
 use Rattle.memory.proofs.Phases.{DueRow, DueRows, Parts, only_op, formed_guard, due_ops, parts_inits, parts_ops, parts_lists, no_fault_phases, no_fault_below, parts_no_fault}
 use Rattle.memory.proofs.ReadRows.{both_pass, RowBelow, RowsBelow, SingleRows, below_single, single_split, taken_below, dropped_below}
 use Rattle.demands.proofs.Advice.{filled_advised, DueInput, DueInputs, due_single, values_of, Unrefused, unrefused_zero}
@@ -172,7 +172,7 @@ ram_due : (q : ℕ) (cells : List Cell) (clock : ℕ) (ages : List ℕ) (ops : L
 unfolding ram_ops ram_row filled_row ops_due
 ram_due q cells clock ages [] due s = tt
 ram_due q cells clock ages (i ∷ is) due s =
-    (filled_due q Ram Access i _ _ _ refl (access_formed i _ _ _) due.0 s.0.1, ram_due q _ _ _ is due.1 s.1)
+    (filled_due q Ram Access i _ _ _ refl (access_formed i _ _ _) due.0 s.0.1, ram_due q (ram_cells cells clock i) _ _ is due.1 s.1)
 
 rom_due : (q : ℕ) (values : List Content) (keys : List ℕ) (ops : List Input) → DueInputs q Rom Operating ops
     → SingleRows (rom_ops values keys ops) → DueRows Rom Operating (rom_ops values keys ops)
@@ -204,7 +204,7 @@ stack_due : (q : ℕ) (cells : List Cell) (clock : ℕ) (ages : List ℕ) (ops :
 unfolding stack_ops ops_due
 stack_due q cells clock ages [] due s = tt
 stack_due q cells clock ages (i ∷ is) due s =
-    ((unfold stack_row filled_row in due.0.1, stack_formed cells clock ages i due.0.1 (unfold bare filled_row in formed_guard Stack (bare i) due.0.2) s.0.1 due.0.2), stack_due q _ _ _ is due.1 s.1)
+    ((unfold stack_row filled_row in due.0.1, stack_formed cells clock ages i due.0.1 (unfold bare filled_row in formed_guard Stack (bare i) due.0.2) s.0.1 due.0.2), stack_due q (stack_cells cells clock i) _ _ is due.1 s.1)
 
 -- an enqueue has no advice, a dequeue uses old
 queue_formed : (content : List Content) (i : Input) → op_in i.op (Enqueue ∷ Dequeue ∷ []) ≡ true → leb i.guard 1 ≡ true
@@ -219,7 +219,7 @@ queue_due : (q : ℕ) (content : List Content) (ops : List Input) → DueInputs 
 unfolding queue_ops ops_due
 queue_due q content [] due s = tt
 queue_due q content (i ∷ is) due s =
-    ((unfold queue_row filled_row in due.0.1, queue_formed content i due.0.1 (unfold bare filled_row in formed_guard Queue (bare i) due.0.2) s.0.1 due.0.2), queue_due q _ is due.1 s.1)
+    ((unfold queue_row filled_row in due.0.1, queue_formed content i due.0.1 (unfold bare filled_row in formed_guard Queue (bare i) due.0.2) s.0.1 due.0.2), queue_due q (queue_content content i) is due.1 s.1)
 
 honest_ops_due : (q : ℕ) (m : Memory) (values : List Content) (ops : List Input) → DueInputs q m Operating ops
     → SingleRows (honest_ops m values ops) → DueRows m Operating (honest_ops m values ops)
