@@ -9,19 +9,12 @@ use Rattle.pieces.specs.Calls.{stands_for}
 use Rattle.text.proofs.Written.{put_whole}
 use Rattle.stream.specs.Progress.{left_by}
 use borrow.Author.Rules.{rules}
-use Rattle.stream.proofs.print_whole.Statement.{statement}
-use Rattle.stream.proofs.print_whole.Tie as tie
+use Rattle.stream.proofs.print_whole.Goals as goal
 
-print-end-requires : tie.Need-print-end-requires
-print-end-requires c κs = search rules
-
-returns : tie.Need-returns
+pub returns : goal.returns
 returns c =
-    let a = c.before.before.before.args in
+    let a = c.args in
     let report = finish_of (modulus_of a.progress.field) (stands_for (left_by a.progress a.buf.now)) in
-    let put = c.print-end.ensures in
-    let fits = put_whole a.text.now (report_text report) (omega (arith, report_short report)) put in
-    (put.0, (put.1, (fits.0, search rules)))
-
-pub print_whole_spec : {M : Type 1} → statement M
-print_whole_spec = tie.close (tie.spec print-end-requires returns)
+    let put = c.print_end.ensures in
+    let fits = put_whole a.text.now (report_text report) (omega (arith, report_short report)) (put.answer, put.slice) in
+    record { answer = put.answer; slice = put.slice; room = fits.0; many = search rules }
