@@ -50,7 +50,8 @@ fn memory_of(code: u32) -> Known
 
 // Copies the init rows.
 fn copy_inits(n: usize, inits: &[u64], out: &mut [u64])
-    requires n_value { (4 * n ≡ length inits.now) × (7 * n ≤ length out.old) }
+    requires starting { 4 * n ≡ length inits.now }
+    requires out_room { 7 * n ≤ length out.old }
     requires clean_inits { CleanInits inits.now }
     ensures { out.new ≡ laid out.old 0 (map bare (inputs_in inits.now)) }
 {
@@ -72,7 +73,7 @@ fn write_rows(
     scratch: &mut [u64],
 ) -> usize
     requires clean_inits { CleanInits inits.now }
-    requires n_in_bounds { 7 * n ≤ length out.old }
+    requires out_room { 7 * n ≤ length out.old }
     requires fillable { Fillable m n t inits.now ops.now (drop (7 * n) out.old) scratch.old }
     requires prepared { Prepared m n inits.now scratch.old }
     ensures rows { out.new ≡ laid out.old 0 (filled_rows m t (inputs_in inits.now) (inputs_in ops.now)) }
@@ -96,8 +97,10 @@ fn first_fault(
     ops: &[u64],
     scratch: &mut [u64],
 ) -> Fault
-    requires n_value { (4 * n ≡ length inits.now) × (n ≤ limit) × (n ≤ length scratch.old) }
-    requires n_value_2 { sized m n ≡ true }
+    requires starting { 4 * n ≡ length inits.now }
+    requires size { n ≤ limit }
+    requires scratch_room { n ≤ length scratch.old }
+    requires allowed { sized m n ≡ true }
     requires blank { Blank scratch.old }
     ensures fault { placed_of result ≡ rows_fault (modulus_of field) m (values_in inits.now) 1 (inputs_in inits.now) (inputs_in ops.now) }
     ensures prepared { Prepared m n inits.now scratch.new }

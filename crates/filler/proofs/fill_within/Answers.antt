@@ -23,12 +23,10 @@ first_fault-fault-requires c =
     let all = c.requires.all in
     let proper = c.requires.proper in
     let size = allowed_size c.args.m c.args.n c.args.t proper in record {
-      n_value = (
-        init_words_count rows c.args.n c.args.t all,
-        sized_limit c.args.m c.args.n size,
-        omega (arith, c.requires.scratch_used),
-      );
-      n_value_2 = size;
+      starting = init_words_count rows c.args.n c.args.t all;
+      size = sized_limit c.args.m c.args.n size;
+      scratch_room = omega (arith, c.requires.scratch_used);
+      allowed = size;
       blank = c.requires.blank;
     }
 
@@ -42,12 +40,12 @@ returns-then-fault-ne0 c =
     let inits = init_words rows c.args.n c.args.t all in
     let ops = op_words rows c.args.n c.args.t all in
     let fault = c.first_fault-fault.result in
-    let all =
+    let same =
     fills_same (refused_is _ c.args.m c.args.t (inputs_in inits) (inputs_in ops) c.args.out.now c.args.scratch.now _ _ fault
     c.first_fault-fault.ensures.fault c.if-fault-ne0.true c.clear_both.ensures.output
     (c.clear_both.ensures.scratch ∙ ap (λ (k : ℕ). replicate k 0) c.first_fault-fault.auto.scratch))
     (parts_filled rows c.args.n c.args.t all _ c.args.m c.args.out.now c.args.scratch.now)
-    in record { answer = all.0; output = all.1.0; words = all.1.1 }
+    in record { answer = same.0; output = same.1.0; words = same.1.1 }
 
 pub write_rows-requires : goal.write_rows-requires
 unfolding room used_words
@@ -63,7 +61,7 @@ write_rows-requires c =
     let inputs = inputs_count inits c.args.n starting in
     let none = ap (λ (f : Placed). f.number) (sym c.first_fault-fault.ensures.fault) ∙ c.if-fault-ne0.false in record {
       clean_inits = record { modulus = modulus_of c.args.field; none = clean_inits _ c.args.m (values_in inits) (inputs_in inits) (inputs_in ops) c.args.n values inputs size none };
-      n_in_bounds = omega (arith, c.requires.out_room);
+      out_room = omega (arith, c.requires.out_room);
       fillable = record {
         size = sized_limit c.args.m c.args.n size;
         count = allowed_count c.args.m c.args.n c.args.t proper;
@@ -86,8 +84,8 @@ returns c =
     let inits = init_words rows c.args.n c.args.t all in
     let ops = op_words rows c.args.n c.args.t all in
     let none = ap (λ (f : Placed). f.number) (sym c.first_fault-fault.ensures.fault) ∙ c.if-fault-ne0.false in
-    let all =
+    let same =
     fills_same (filled_is _ c.args.m c.args.t (inputs_in inits) (inputs_in ops) c.args.out.now c.args.scratch.now _ _ c.write_rows.result
     none c.write_rows.ensures.rows (c.write_rows.ensures.blank ∙ ap (λ (k : ℕ). replicate k 0) c.first_fault-fault.auto.scratch) c.write_rows.ensures.count)
     (parts_filled rows c.args.n c.args.t all _ c.args.m c.args.out.now c.args.scratch.now)
-    in record { answer = all.0; output = all.1.0; words = all.1.1 }
+    in record { answer = same.0; output = same.1.0; words = same.1.1 }

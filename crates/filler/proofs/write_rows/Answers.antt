@@ -31,7 +31,7 @@ rows_after-more-requires c =
     }
 
 pub overflow_add-result : goal.overflow_add-result
-overflow_add-result c = omega (arith, c.rows_after-more.ensures.rows, c.rows_after-more.ensures.count, c.rows_after-more.ensures.room, c.requires.clean_inits, c.requires.n_in_bounds, c.requires.fillable, c.requires.prepared, c.well_formed)
+overflow_add-result c = omega (arith, c.rows_after-more.ensures.rows, c.rows_after-more.ensures.count, c.rows_after-more.ensures.room, c.requires.clean_inits, c.requires.out_room, c.requires.fillable, c.requires.prepared, c.well_formed)
 
 pub returns : goal.returns
 unfolding filled_rows values_in
@@ -39,4 +39,4 @@ returns c =
     let is = inputs_in c.args.inits.now in
     let more = operations_filled c.args.m c.args.t (values_in c.args.inits.now) (inputs_in c.args.ops.now) in
     let count : length (map bare is) ≡ c.args.n = length-map is bare ∙ inputs_count c.args.inits.now c.args.n c.requires.fillable.starting in
-    let long : length c.rows_after-more.new.scratch ≡ length c.args.scratch.now = omega (arith, c.rows_after-more.auto) in record { rows = laid_handed_on c.args.out.now c.copy_inits.new.out c.rows_after-more.new.out (7 * c.args.n) (map bare is) more c.copy_inits.ensures (omega arith) c.requires.n_in_bounds c.rows_after-more.ensures.rows; blank = c.clear.ensures ∙ ap (λ (n : ℕ). replicate n 0) long; count = omega (arith, c.rows_after-more.ensures.count, length-append (map bare is) more, count) }
+    let long : length c.rows_after-more.new.scratch ≡ length c.args.scratch.now = omega (arith, c.rows_after-more.auto) in record { rows = laid_handed_on c.args.out.now c.copy_inits.new.out c.rows_after-more.new.out (7 * c.args.n) (map bare is) more c.copy_inits.ensures (omega arith) c.requires.out_room c.rows_after-more.ensures.rows; blank = c.clear.ensures ∙ ap (λ (n : ℕ). replicate n 0) long; count = omega (arith, c.rows_after-more.ensures.count, length-append (map bare is) more, count) }
