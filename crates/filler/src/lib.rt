@@ -1,4 +1,5 @@
-// Operations to advice: the filler's library. Rows are numbers in slices: 4 words an input row, 7 words an output row.
+// Operations to advice: the filler's library. Rows are numbers in slices: 4 words an input row, 7
+// words an output row.
 #![tactic(auto)]
 
 use faults::Fault;
@@ -62,7 +63,8 @@ fn copy_inits(n: usize, inits: &[u64], out: &mut [u64])
     }
 }
 
-// Writes all rows, where none has a fault; how many they are. The part of the output after the init rows is handed on.
+// Writes all rows, where none has a fault; how many they are. The part of the output after the init
+// rows is handed on.
 fn write_rows(
     m: Memory,
     n: usize,
@@ -180,7 +182,8 @@ fn turned_away(m: Memory, size: u32, count: u32, rows: usize, out: usize, scratc
     }
 }
 
-// "The filler's library tests 4, 7 (rows not size + count), 14, 15, place 0, buffers as found; then each row."
+// "The filler's library tests 4, 7 (rows not size + count), 14, 15, place 0, buffers as found; then
+// each row."
 pub fn fill(
     field: Modulus,
     memory: u32,

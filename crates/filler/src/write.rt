@@ -77,7 +77,8 @@ fn operations(
     at
 }
 
-// All rows after the init rows; how many they are. A further part of the output is handed on for the end and range rows.
+// All rows after the init rows; how many they are. A further part of the output is handed on for
+// the end and range rows.
 pub(crate) fn rows_after(
     m: Memory,
     n: usize,

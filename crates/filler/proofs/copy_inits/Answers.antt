@@ -1,4 +1,5 @@
--- `filler::copy_inits` meets its contract. The invariant of its loop: what is written and the rows left make up the whole, and no row left has a fault.
+-- `filler::copy_inits` meets its contract. The invariant of its loop: what is written and the rows
+-- left make up the whole, and no row left has a fault.
 -- Assumes nothing.
 use Prim.Native.Nat.{ℕ, ◌+◌, ◌*◌}
 use native.Mathlib.Omega.{arith}

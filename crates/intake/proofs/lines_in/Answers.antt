@@ -1,4 +1,5 @@
--- `intake::lines_in` meets its contract. The loop's invariant: the used bytes are read, and the next line feed is found.
+-- `intake::lines_in` meets its contract. The loop's invariant: the used bytes are read, and the
+-- next line feed is found.
 -- Assumes nothing.
 use native.Mathlib.Omega.{arith}
 use mathlib.Core.Path.{refl, ◌∙◌}

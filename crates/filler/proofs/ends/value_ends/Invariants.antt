@@ -1,4 +1,5 @@
--- `filler::ends::value_ends` meets its contract. The invariant of its loop: what is written and the rows left make up the whole.
+-- `filler::ends::value_ends` meets its contract. The invariant of its loop: what is written and the
+-- rows left make up the whole.
 -- Assumes nothing.
 use Prim.Native.Nat.{◌*◌, ◌≤◌, ◌-◌}
 use mathlib.Core.Path.{◌≡◌}

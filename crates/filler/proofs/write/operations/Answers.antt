@@ -1,4 +1,5 @@
--- `filler::write::operations` meets its contract. The invariant of its loop: a run of so many operations.
+-- `filler::write::operations` meets its contract. The invariant of its loop: a run of so many
+-- operations.
 -- Assumes nothing.
 use Prim.Native.Nat.{ℕ}
 use native.Mathlib.Omega.{arith}

@@ -1,4 +1,5 @@
--- `fillfile::ending::code` meets its contract: in each arm the variant is known, and the definition computes.
+-- `fillfile::ending::code` meets its contract: in each arm the variant is known, and the definition
+-- computes.
 -- Assumes nothing.
 use Rattle.runs.specs.Filler.{memory_code}
 use borrow.Author.Rules.{rules}

@@ -1,4 +1,5 @@
--- `fillfile::ending::rows` meets its contract. The loop's invariant: the rows passed stand behind the names line.
+-- `fillfile::ending::rows` meets its contract. The loop's invariant: the rows passed stand behind
+-- the names line.
 -- Assumes nothing.
 use native.Mathlib.Omega.{arith}
 use mathlib.Core.Path.{◌≡◌, refl, sym, ◌∙◌}

@@ -1,4 +1,5 @@
--- `fillfile::ending::rows` meets its contract. The loop's invariant: the rows passed stand behind the names line.
+-- `fillfile::ending::rows` meets its contract. The loop's invariant: the rows passed stand behind
+-- the names line.
 -- Assumes nothing.
 use Prim.Native.Nat.{◌-◌, ◌≤◌}
 use mathlib.Core.Path.{◌≡◌}
