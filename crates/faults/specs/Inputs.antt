@@ -1,4 +1,5 @@
--- The input rows that words stand for, 4 words a row: "In the library the rows are lent slices of numbers".
+-- The input rows that words stand for, 4 words a row: "In the library the rows are lent slices of
+-- numbers".
 -- Assumes nothing.
 use Rattle.std.specs.Prelude.{ℕ, List}
 use Rattle.memory.specs.Names.{op_coded}

@@ -1,5 +1,7 @@
--- The first fault of the input rows, as a scan finds it that keeps no content: "then each row 3, 5, 6, 11, 12, 13, place its number from 1". Of a ram and a
--- rom the number of cells matters, of a stack and a queue the depth, of a set which values are in it. The number of cells, or the depth, is the level.
+-- The first fault of the input rows, as a scan finds it that keeps no content: "then each row 3, 5,
+-- 6, 11, 12, 13, place its number from 1". Of a ram and a rom the number of cells matters, of a
+-- stack and a queue the depth, of a set which values are in it. The number of cells, or the depth,
+-- is the level.
 -- Assumes nothing.
 use Rattle.std.specs.Prelude.{ℕ, suc, ◌+◌, ◌-◌, Bool, cond, List, [], ◌∷◌, eqb, ltb, length}
 use Rattle.memory.specs.declared.Memory.{Memory}

@@ -9,8 +9,9 @@ use Rattle.index.specs.Values.{values_in}
 use Rattle.index.specs.Tree.{grown}
 use Rattle.faults.specs.Scan.{first_of}
 
--- "then each row 3, 5, 6, 11, 12, 13, place its number from 1": where the size is allowed, and the links of a set are the tree grown over its elements in
--- words of 0, the scan finds the first fault of the rows. (FirstFault: scan_finds_first)
+-- "then each row 3, 5, 6, 11, 12, 13, place its number from 1": where the size is allowed, and the
+-- links of a set are the tree grown over its elements in words of 0, the scan finds the first fault
+-- of the rows. (FirstFault: scan_finds_first)
 abbrev pub ScanFindsFirst : Type 0
 ScanFindsFirst =
     (q : ℕ) (m : Memory) (inits links ops : List ℕ)

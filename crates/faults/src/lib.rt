@@ -1,5 +1,6 @@
-// The first fault of the input rows: "then each row 3, 5, 6, 11, 12, 13, place its number from 1". Nothing is written: of a ram and a rom the number of cells
-// matters, of a stack and a queue the depth, of a set its search tree. The number of cells, or the depth, is the level.
+// The first fault of the input rows: "then each row 3, 5, 6, 11, 12, 13, place its number from 1".
+// Nothing is written: of a ram and a rom the number of cells matters, of a stack and a queue the
+// depth, of a set its search tree. The number of cells, or the depth, is the level.
 #![tactic(auto)]
 
 ghost use Rattle.std.specs.Prelude.{◌≡◌, ◌^◌, ◌<◌};
@@ -189,7 +190,8 @@ fn scan_operations(field: Modulus, m: Memory, inits: &[u64], links: &[u64], ops:
     }
 }
 
-// The first fault of all rows, of 4 words each; the links are the words in which a set's elements are looked up.
+// The first fault of all rows, of 4 words each; the links are the words in which a set's elements
+// are looked up.
 pub fn first(field: Modulus, m: Memory, inits: &[u64], links: &[u64], ops: &[u64]) -> Fault
     ensures { placed_of result ≡ first_of (modulus_of field) m inits.now links.now ops.now }
 {

@@ -1,4 +1,5 @@
--- The end rows and range rows that the scratch words give, written one at a time, and how many they are.
+-- The end rows and range rows that the scratch words give, written one at a time, and how many they
+-- are.
 -- Assumes nothing.
 use Prim.Native.Nat.{ℕ, zero, suc, ◌+◌, ◌-◌, ◌*◌, ◌≤◌, ◌<◌}
 use native.Mathlib.Omega.{arith}

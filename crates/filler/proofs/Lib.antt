@@ -17,4 +17,3 @@ pub mod Progress
 pub mod Clean
 pub mod InitRows
 pub mod Whole
-pub mod Tags

@@ -1,4 +1,5 @@
--- A run of operations part of the way: the rows written and those left make up all rows, and no operation left has a fault.
+-- A run of operations part of the way: the rows written and those left make up all rows, and no
+-- operation left has a fault.
 --     onward_start, onward_turn    before the first operation, and after one more
 --     clean_turn      where no operation left has a fault, the one there has none, and neither have those after it
 --     inside_ram … held_queue     what a row that is possible is
@@ -64,7 +65,8 @@ onward_as {all} {rest} {k} {out₀} {out} rest' e o = record {
   long = o.long;
 }
 
--- after the operation there: `from` gives the rows of the operations from it on, and `later` those of the operations after it
+-- after the operation there: `from` gives the rows of the operations from it on, and `later` those
+-- of the operations after it
 pub onward_next : {all : List Row} {k : ℕ} {out₀ out : List ℕ} (w t : ℕ) (ops : List ℕ) → Given w t ops out₀ → k < t → (from later : List Input → List Row) (row : Row) (ws : List ℕ)
     → Onward all (from (drop k (inputs_in ops))) k out₀ out
     → from (input_at ops k ∷ drop (suc k) (inputs_in ops)) ≡ row ∷ later (drop (suc k) (inputs_in ops)) → ws ≡ row_numbers (row ∷ [])

@@ -1,4 +1,5 @@
--- A run of members: the scratch words count the lookups of each element, of equal ones at the first.
+-- A run of members: the scratch words count the lookups of each element, of equal ones at the
+-- first.
 --     set_start       before the first member
 --     set_ready, set_turn_lem    a member is possible, and after it the run is one member further
 --     set_ends        after all of them the counts give the end rows
@@ -167,7 +168,8 @@ module _ (w t : ℕ) (inits ops out₀ : List ℕ) (given : Given w t ops out₀
     clean = set_clean.later;
   }
 
--- counts of the elements from j on give the end rows of the elements from there on, where `earlier` are the elements before
+-- counts of the elements from j on give the end rows of the elements from there on, where `earlier`
+-- are the elements before
 module _ (w : ℕ) (values s keys : List ℕ) (counts : (j : ℕ) → j < w → lookups_in (get_or s j 0) ≡ share values keys j) (many : length values ≡ w) where
   -- the element at j is among those before it unless j is its first place
   first_or_among : (j : ℕ) (earlier : List ℕ) → j < w → ((x : ℕ) → among x earlier ≡ ltb (first_at x values) j)

@@ -14,7 +14,8 @@ use Rattle.layout.specs.Laid.{laid}
 use Rattle.filler.specs.Ends.{ending, EndingFits}
 use Rattle.faults.specs.Scan.{scanned, inits_scanned}
 
--- how many cells the scratch words hold: those of a ram, the keys of a rom or set, or as many as a stack or queue may come to hold
+-- how many cells the scratch words hold: those of a ram, the keys of a rom or set, or as many as a
+-- stack or queue may come to hold
 unfoldable pub width_of : Memory → ℕ → ℕ → ℕ
 width_of Ram n t = n
 width_of Rom n t = n

@@ -1,4 +1,5 @@
-// Operations to advice: the filler's library. Rows are numbers in slices: 4 words an input row, 7 words an output row.
+// Operations to advice: the filler's library. Rows are numbers in slices: 4 words an input row, 7
+// words an output row.
 #![tactic(auto)]
 
 use faults::Fault;
@@ -50,7 +51,8 @@ fn memory_of(code: u32) -> Known
 
 // Copies the init rows.
 fn copy_inits(n: usize, inits: &[u64], out: &mut [u64])
-    requires n_value { (4 * n ≡ length inits.now) × (7 * n ≤ length out.old) }
+    requires starting { 4 * n ≡ length inits.now }
+    requires out_room { 7 * n ≤ length out.old }
     requires clean_inits { CleanInits inits.now }
     ensures { out.new ≡ laid out.old 0 (map bare (inputs_in inits.now)) }
 {
@@ -61,7 +63,8 @@ fn copy_inits(n: usize, inits: &[u64], out: &mut [u64])
     }
 }
 
-// Writes all rows, where none has a fault; how many they are. The part of the output after the init rows is handed on.
+// Writes all rows, where none has a fault; how many they are. The part of the output after the init
+// rows is handed on.
 fn write_rows(
     m: Memory,
     n: usize,
@@ -72,7 +75,7 @@ fn write_rows(
     scratch: &mut [u64],
 ) -> usize
     requires clean_inits { CleanInits inits.now }
-    requires n_in_bounds { 7 * n ≤ length out.old }
+    requires out_room { 7 * n ≤ length out.old }
     requires fillable { Fillable m n t inits.now ops.now (drop (7 * n) out.old) scratch.old }
     requires prepared { Prepared m n inits.now scratch.old }
     ensures rows { out.new ≡ laid out.old 0 (filled_rows m t (inputs_in inits.now) (inputs_in ops.now)) }
@@ -96,8 +99,10 @@ fn first_fault(
     ops: &[u64],
     scratch: &mut [u64],
 ) -> Fault
-    requires n_value { (4 * n ≡ length inits.now) × (n ≤ limit) × (n ≤ length scratch.old) }
-    requires n_value_2 { sized m n ≡ true }
+    requires starting { 4 * n ≡ length inits.now }
+    requires size { n ≤ limit }
+    requires scratch_room { n ≤ length scratch.old }
+    requires allowed { sized m n ≡ true }
     requires blank { Blank scratch.old }
     ensures fault { placed_of result ≡ rows_fault (modulus_of field) m (values_in inits.now) 1 (inputs_in inits.now) (inputs_in ops.now) }
     ensures prepared { Prepared m n inits.now scratch.new }
@@ -177,7 +182,8 @@ fn turned_away(m: Memory, size: u32, count: u32, rows: usize, out: usize, scratc
     }
 }
 
-// "The filler's library tests 4, 7 (rows not size + count), 14, 15, place 0, buffers as found; then each row."
+// "The filler's library tests 4, 7 (rows not size + count), 14, 15, place 0, buffers as found; then
+// each row."
 pub fn fill(
     field: Modulus,
     memory: u32,

@@ -1,4 +1,5 @@
-// One operation of each memory: its advice is found and its row written, and the scratch words come to hold the memory after it.
+// One operation of each memory: its advice is found and its row written, and the scratch words come
+// to hold the memory after it.
 //
 // No content stands in the scratch words. Of a ram, a stack and a queue the words of the w cells
 // (words::cells) lie from 0 on, and of a ram and a stack the lookups of each age from w on, of age

@@ -23,7 +23,9 @@ fn width(m: Memory, n: usize, t: usize) -> usize
 
 // The search tree over the elements of a set, in the first n words.
 fn build_tree(n: usize, inits: &[u64], scratch: &mut [u64])
-    requires n_value { (4 * n ≡ length inits.now) × (n ≤ length scratch.old) × (n ≤ limit) }
+    requires starting { 4 * n ≡ length inits.now }
+    requires scratch_room { n ≤ length scratch.old }
+    requires size { n ≤ limit }
     requires blank { Blank scratch.old }
     ensures { TreeBuilt n inits.now scratch.new }
 {
@@ -32,7 +34,9 @@ fn build_tree(n: usize, inits: &[u64], scratch: &mut [u64])
 
 // The scratch words before the first operation.
 pub(crate) fn prepare(m: Memory, n: usize, inits: &[u64], scratch: &mut [u64])
-    requires n_value { (4 * n ≡ length inits.now) × (n ≤ length scratch.old) × (n ≤ limit) }
+    requires starting { 4 * n ≡ length inits.now }
+    requires scratch_room { n ≤ length scratch.old }
+    requires size { n ≤ limit }
     requires blank { Blank scratch.old }
     ensures { Prepared m n inits.now scratch.new }
 {
@@ -73,7 +77,8 @@ fn operations(
     at
 }
 
-// All rows after the init rows; how many they are. A further part of the output is handed on for the end and range rows.
+// All rows after the init rows; how many they are. A further part of the output is handed on for
+// the end and range rows.
 pub(crate) fn rows_after(
     m: Memory,
     n: usize,

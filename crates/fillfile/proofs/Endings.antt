@@ -1,4 +1,5 @@
--- The end of input: what is printed of the library's answer, and what is printed and left of the lent slices after the last line.
+-- The end of input: what is printed of the library's answer, and what is printed and left of the
+-- lent slices after the last line.
 -- Assumes nothing.
 use Prim.Native.Nat.{ℕ, ◌*◌, min}
 use native.Mathlib.Omega.{arith}

@@ -1,5 +1,6 @@
--- What the filling program prints: where the lent slices have room for 128 init rows and 128 operations, `start`, any number of `advance`, and `finish` print what the
--- definition of the program says of all the bytes that were read.
+-- What the filling program prints: where the lent slices have room for 128 init rows and 128
+-- operations, `start`, any number of `advance`, and `finish` print what the definition of the
+-- program says of all the bytes that were read.
 -- Assumes nothing.
 use Prim.Native.Nat.{ℕ, zero, suc, ◌+◌, ◌-◌, ◌*◌, ◌≤◌}
 use native.Mathlib.Omega.{arith}

@@ -20,9 +20,11 @@ unfoldable pub output_rows : ℕ → List ℕ → List Row
 output_rows zero ws = []
 output_rows (suc k) ws = output_rows k ws ++ row_in ws k ∷ []
 
--- the rows that were written, or the refusal; "row k being line k + 3". Free is what is printed of the library's answers with place 0, which document 01 gives to
--- the library alone: 7, 14 and 15 where the caller lends fewer words than 4 for each row, or less output or scratch than 2n + 3T rows and words, and 4 where it hands on
--- a size or count that no value line has. What holds then: the answer is printed on line 3, and output and scratch are as they were.
+-- the rows that were written, or the refusal; "row k being line k + 3". Free is what is printed of
+-- the library's answers with place 0, which document 01 gives to the library alone: 7, 14 and 15
+-- where the caller lends fewer words than 4 for each row, or less output or scratch than 2n + 3T
+-- rows and words, and 4 where it hands on a size or count that no value line has. What holds then:
+-- the answer is printed on line 3, and output and scratch are as they were.
 unfoldable pub answer_text : Filled → List ℕ → List ℕ
 answer_text (Rows count) output = filled_text (output_rows count output)
 answer_text (Refused number place) output = refusal_text number (raise place 3)

@@ -1,4 +1,5 @@
--- Every statement of this crate, as the fields of one record: a proof of it is a proof of each. (Promises: promises)
+-- Every statement of this crate, as the fields of one record: a proof of it is a proof of each.
+-- (Promises: promises)
 -- Assumes nothing.
 use Rattle.fillfile.specs.Statements.{PiecesAreText}
 

@@ -1,4 +1,5 @@
--- What is shown of the functions that run: types only, over their contracts. Each is proved in the file and by the name in brackets.
+-- What is shown of the functions that run: types only, over their contracts. Each is proved in the
+-- file and by the name in brackets.
 -- Assumes nothing.
 use Rattle.std.specs.Prelude.{ℕ, ◌+◌, ◌*◌, ◌≤◌, List, length}
 use Rattle.field.specs.declared.moduli.Modulus.{Modulus}
@@ -12,8 +13,9 @@ use Rattle.text.specs.Put.{Printed}
 use Rattle.fillfile.specs.Progress.{begun, left_by}
 use Rattle.fillfile.specs.Ending.{Finished}
 
--- What a caller lends, at least: words for as many rows as may be due, "room for 2n + 3T output rows and 2n + 3T scratch words", and bytes for the longest text
--- that is printed (runs: FillTextShort)
+-- What a caller lends, at least: words for as many rows as may be due, "room for 2n + 3T output
+-- rows and 2n + 3T scratch words", and bytes for the longest text that is printed (runs:
+-- FillTextShort)
 pub record Lent (words out scratch text : List ℕ) : Type 0 where
   pub rows : 4 * (fill_limit + fill_limit) ≤ length words
   pub output : 7 * room fill_limit fill_limit ≤ length out

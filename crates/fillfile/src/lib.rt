@@ -1,5 +1,7 @@
-// The filling program's library: from the bytes of its input, read in pieces, to the bytes that it prints. Section "The filler" of document 01.
-// A caller keeps one buffer for the input and one for the words of the rows: `start`, then for each block `advance`, and `finish` at the end of input.
+// The filling program's library: from the bytes of its input, read in pieces, to the bytes that it
+// prints. Section "The filler" of document 01.
+// A caller keeps one buffer for the input and one for the words of the rows: `start`, then for each
+// block `advance`, and `finish` at the end of input.
 #![tactic(auto)]
 
 use field::moduli::Modulus;
@@ -61,8 +63,10 @@ pub fn start(field: Modulus) -> Progress
     }
 }
 
-// The filled part of the buffer, which begins with the kept bytes: its whole lines are read, and the unfinished line after them is moved to the front, as far as it
-// is kept. The bytes of the buffer behind it are as they were. A part that would end past the buffer ends with it. The rows go into the words.
+// The filled part of the buffer, which begins with the kept bytes: its whole lines are read, and
+// the unfinished line after them is moved to the front, as far as it is kept. The bytes of the
+// buffer behind it are as they were. A part that would end past the buffer ends with it. The rows
+// go into the words.
 pub fn advance(progress: Progress, buf: &mut [u8], filled: usize, words: &mut [u64]) -> Progress
     ensures lines { Advanced (line_taken (modulus_of progress.field)) (gathered progress.intake words.old) filled buf.old (left_by result words.new buf.new) }
     ensures field { result.field ≡ progress.field }
@@ -80,8 +84,10 @@ pub fn advance(progress: Progress, buf: &mut [u8], filled: usize, words: &mut [u
     }
 }
 
-// The end of input, with the kept bytes at the front of the buffer: what the program prints goes into the text. Free is what is printed where the
-// caller lends less than `fill` does: the library's 7, 14 or 15 on line 3, for too few words, too little output or too little scratch; and its 4, for a size or count that no value line has.
+// The end of input, with the kept bytes at the front of the buffer: what the program prints goes
+// into the text. Free is what is printed where the caller lends less than `fill` does: the
+// library's 7, 14 or 15 on line 3, for too few words, too little output or too little scratch; and
+// its 4, for a size or count that no value line has.
 pub fn finish(
     progress: Progress,
     buf: &[u8],

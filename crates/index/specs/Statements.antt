@@ -5,8 +5,8 @@ use Rattle.memory.specs.Rows.{limit}
 use Rattle.index.specs.Values.{first_at}
 use Rattle.index.specs.Tree.{found, grown}
 
--- "equal set elements give all lookups to the first": a search in the tree that is grown over values in words of 0 finds the first place of what it
--- looks for. (Search: search_finds_first)
+-- "equal set elements give all lookups to the first": a search in the tree that is grown over
+-- values in words of 0 finds the first place of what it looks for. (Search: search_finds_first)
 abbrev pub SearchFindsFirst : Type 0
 SearchFindsFirst =
     (x : ℕ) (values : List ℕ) → length values ≤ limit

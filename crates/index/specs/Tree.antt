@@ -1,5 +1,6 @@
--- A digital search tree over a list of values, of one word a value. Node j holds the value at place j, and node 0 is the root. A word packs the two
--- children of its node as left · 65,536 + right. A search goes left where its key is even and right where it is odd, and halves the key.
+-- A digital search tree over a list of values, of one word a value. Node j holds the value at place
+-- j, and node 0 is the root. A word packs the two children of its node as left · 65,536 + right. A
+-- search goes left where its key is even and right where it is odd, and halves the key.
 -- What stands in a word above the two children is not looked at.
 -- Assumes nothing.
 use Rattle.std.specs.Prelude.{ℕ, zero, suc, ◌+◌, ◌-◌, ◌*◌, ◌/◌, ◌%◌, ◌≤◌, ◌<◌, ◌&&◌, cond, List, eqb, ltb, length, get_or, set}
@@ -14,7 +15,8 @@ unfoldable pub joined : ℕ → ℕ → ℕ → ℕ
 joined key word k =
     cond (eqb (key % 2) 0) (k % limit * limit + word % limit) (word / limit % limit * limit + k % limit)
 
--- the child of a node among n nodes: 0, which is none, where it is not above its parent or not below n
+-- the child of a node among n nodes: 0, which is none, where it is not above its parent or not
+-- below n
 unfoldable pub child_at : ℕ → List ℕ → ℕ → ℕ → ℕ
 child_at n links node key =
     let c = side_of key (get_or links node 0) in
@@ -23,7 +25,8 @@ child_at n links node key =
 unfoldable pub stop_at : ℕ → ℕ → Stop
 stop_at node key = record { node = node; key = key }
 
--- where a search for x ends, from a node and a key on, after so many steps at most: at a node that holds x, or that has no child on the key's side
+-- where a search for x ends, from a node and a key on, after so many steps at most: at a node that
+-- holds x, or that has no child on the key's side
 unfoldable pub walked : ℕ → List ℕ → List ℕ → ℕ → ℕ → ℕ → Stop
 walked zero values links x key node = stop_at node key
 walked (suc f) values links x key node =

@@ -1,5 +1,6 @@
-// The place of the first element of a set that equals a value: "equal set elements give all lookups to the first". A digital search tree over the init
-// values, of one word an element, finds it. The elements are values of init rows in a slice, 4 words a row.
+// The place of the first element of a set that equals a value: "equal set elements give all lookups
+// to the first". A digital search tree over the init values, of one word an element, finds it. The
+// elements are values of init rows in a slice, 4 words a row.
 #![tactic(auto)]
 
 ghost use Rattle.std.specs.Prelude.{◌≡◌, ◌+◌, ◌*◌, ◌<◌};

@@ -10,7 +10,8 @@ use Rattle.fill_lines.specs.declared.Task.TheVariants as task
 use Rattle.fill_lines.specs.declared.Given.{Given}
 use Rattle.fill_lines.specs.declared.Given.TheVariants as given
 
--- line 1 and line 3, by what they read as: the next line follows, or the input is refused on this one
+-- line 1 and line 3, by what they read as: the next line follows, or the input is refused on this
+-- one
 unfoldable pub named_taken : Intake → ℕ → Named → Intake
 named_taken i k Names = move_to i (k + 1)
 named_taken i k (Fault fault) = refuse_on i fault k

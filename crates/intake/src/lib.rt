@@ -1,4 +1,5 @@
-// The filling program's input, line by line, from the bytes of a block to an intake and the words of its rows. Section "The filler" of document 01.
+// The filling program's input, line by line, from the bytes of a block to an intake and the words
+// of its rows. Section "The filler" of document 01.
 #![tactic(auto)]
 
 use field::moduli::Modulus;

@@ -22,7 +22,8 @@ columns_over : (ns : List ℕ) (i : ℕ) → length ns ≤ i → columns_text (d
 unfolding columns_text
 columns_over ns i h = ap columns_text (drop_of_length-le ns h)
 
--- After the first i numbers: what follows leaves what all the numbers leave after what was put before.
+-- After the first i numbers: what follows leaves what all the numbers leave after what was put
+-- before.
 pub record Rest (start : List ℕ) (prior : Put) (ns buf : List ℕ) (end : Put) (i : ℕ) : Type 0 where
   pub size : length buf ≡ length start
   pub answer : put_after (length buf) end (columns_text (drop i ns)) ≡ put_after (length start) prior (columns_text ns)

@@ -1,4 +1,5 @@
--- A slice that holds the numbers of rows holds those rows: what `filled_row` prints of the filler's output.
+-- A slice that holds the numbers of rows holds those rows: what `filled_row` prints of the filler's
+-- output.
 -- Assumes nothing.
 use mathlib.Core.Path.{◌≡◌, ap, ◌∙◌}
 use mathlib.Core.List.{List, [], ◌∷◌, ◌++◌}

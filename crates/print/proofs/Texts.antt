@@ -1,4 +1,5 @@
--- The texts of rows, reports and refusals as the parts that are put one after another, and two texts of document 01.
+-- The texts of rows, reports and refusals as the parts that are put one after another, and two
+-- texts of document 01.
 -- Assumes nothing.
 use mathlib.Core.Path.{◌≡◌, refl, ap, ◌∙◌}
 use mathlib.Core.List.{List, [], ◌∷◌, ◌++◌, append_assoc}

@@ -11,7 +11,8 @@ unfoldable pub columns_text : List ℕ → List ℕ
 columns_text [] = feed ∷ []
 columns_text (n ∷ ns) = (comma ∷ number_text n) ++ columns_text ns
 
--- the number in a column of the row at place k of a slice of output rows, 7 numbers a row; a number that is not there counts as 0
+-- the number in a column of the row at place k of a slice of output rows, 7 numbers a row; a number
+-- that is not there counts as 0
 unfoldable pub cell_in : List ℕ → ℕ → ℕ → ℕ
 cell_in rows k column = get_or rows (7 * k + column) 0
 

@@ -1,4 +1,5 @@
-// Answers and rows to bytes: rows, the report and the refusal, put into a lent slice from a position on as crate text puts them. Every function is total.
+// Answers and rows to bytes: rows, the report and the refusal, put into a lent slice from a
+// position on as crate text puts them. Every function is total.
 #![tactic(auto)]
 
 ghost use Rattle.std.specs.Prelude.{◌≡◌, ◌<◌, [], ◌∷◌, ◌++◌, length};
@@ -13,7 +14,8 @@ use memory::{Op, Report, Row};
 use rules::ops;
 use text::{Put, bytes, more, more_number};
 
-// The ops as the rows name them, in the order of their numbers: 7 bytes for each, of which its name takes the first. The op that is none of these has no name.
+// The ops as the rows name them, in the order of their numbers: 7 bytes for each, of which its name
+// takes the first. The op that is none of these has no name.
 const OP_NAMES: [u8; 70] =
     *b"init   access look   member push   pop    enqueuedequeueend    range  ";
 
@@ -111,7 +113,8 @@ pub fn refusal(buf: &mut [u8], at: usize, answer: u32, place: u32) -> Put
     columns(buf, end, &[place as u64])
 }
 
-// The number in a column of the row at place k of a slice of output rows, 7 numbers a row; 0 where there is none.
+// The number in a column of the row at place k of a slice of output rows, 7 numbers a row; 0 where
+// there is none.
 fn cell(rows: &[u64], k: usize, column: usize) -> u64
     requires { column < 7 }
     ensures { result ≡ cell_in rows.now k column }

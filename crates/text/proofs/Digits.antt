@@ -1,4 +1,5 @@
--- The digits of a number as they are laid into an array from its end: one turn of the loop, and the last digit.
+-- The digits of a number as they are laid into an array from its end: one turn of the loop, and the
+-- last digit.
 -- Assumes nothing.
 use mathlib.Core.Path.{◌≡◌, sym, ap, ap₂, ◌∙◌}
 use mathlib.Core.List.{List, ◌∷◌}
@@ -17,7 +18,8 @@ drop_set l i v h =
     drop-cons (set l i v) i 0 (omega (arith, length-set l i v))
     ∙ ap₂ (λ (x : ℕ) (r : List ℕ). x ∷ r) (get_or-set_same l i v 0 h) (drop-set-lt (suc i) l i v (omega arith) ∙ ap (λ (k : ℕ). drop k l) (sym (add-one i)))
 
--- What stands in the array after the digits behind `first`: `left` is still to come, and has at most first + 1 digits.
+-- What stands in the array after the digits behind `first`: `left` is still to come, and has at
+-- most first + 1 digits.
 pub record Laid (n : ℕ) (digits : List ℕ) (first left : ℕ) : Type 0 where
   pub size : length digits ≡ 20
   pub inside : first ≤ 19

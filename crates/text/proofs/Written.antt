@@ -1,4 +1,5 @@
--- Laws of a text in a slice: where it fits and where it is cut short, and of one text after another.
+-- Laws of a text in a slice: where it fits and where it is cut short, and of one text after
+-- another.
 -- Assumes nothing.
 use mathlib.Core.Path.{◌≡◌, refl, sym, ap, ap₂, ◌∙◌}
 use mathlib.Core.Bool.{Bool, cond, true, false}
@@ -184,7 +185,8 @@ unfolding put_after written_after
 more_full buf text e =
     (sym (ap (λ (p : Put). put_after (length buf) p text) e), sym (ap (λ (p : Put). written_after buf p text) e))
 
--- for a caller with room: a text put at the start of a slice is the slice's first bytes, and the answer is its length
+-- for a caller with room: a text put at the start of a slice is the slice's first bytes, and the
+-- answer is its length
 pub put_whole : (buf text : List ℕ) {r : Put} {after : List ℕ} → length text ≤ length buf
     → (r ≡ put_of (length buf) 0 text) × (after ≡ written buf 0 text)
     → (r ≡ At (length text)) × (take (length text) after ≡ text)

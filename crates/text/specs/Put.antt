@@ -1,4 +1,5 @@
--- Text put into a lent slice of bytes from a position on: the answer, and what the slice holds afterwards.
+-- Text put into a lent slice of bytes from a position on: the answer, and what the slice holds
+-- afterwards.
 -- Assumes nothing.
 use Rattle.std.specs.Prelude.{ℕ, ◌+◌, ◌-◌, ◌≡◌, cond, List, ◌++◌, leb, length, take, drop}
 use Rattle.text.specs.declared.Put.{Put}
@@ -8,7 +9,8 @@ use Rattle.text.specs.declared.Put.TheVariants.{At, Full}
 unfoldable pub put_of : ℕ → ℕ → List ℕ → Put
 put_of room at text = cond (leb (at + length text) room) (At (at + length text)) Full
 
--- a slice with a text in it from `at` on, as much of the text as there is room for; all other bytes are as they were
+-- a slice with a text in it from `at` on, as much of the text as there is room for; all other bytes
+-- are as they were
 unfoldable pub written : List ℕ → ℕ → List ℕ → List ℕ
 written buf at text = take at buf ++ take (length buf - at) text ++ drop (at + length text) buf
 

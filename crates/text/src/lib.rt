@@ -1,5 +1,6 @@
-// Bytes and numbers put into a lent slice from a position on. Every function is total. Where a text runs past the slice's end the answer is Full, and the slice
-// holds as much of the text as there is room for.
+// Bytes and numbers put into a lent slice from a position on. Every function is total. Where a text
+// runs past the slice's end the answer is Full, and the slice holds as much of the text as there is
+// room for.
 #![tactic(auto)]
 
 ghost use Rattle.std.specs.Prelude.{◌≡◌, length};

@@ -1,4 +1,5 @@
--- `faults::scan_inits` meets its contract. The invariant of its loop: no init row passed has a fault, so the scan is that of the rows left.
+-- `faults::scan_inits` meets its contract. The invariant of its loop: no init row passed has a
+-- fault, so the scan is that of the rows left.
 -- Assumes nothing.
 use Prim.Native.Nat.{◌+◌, ◌/◌}
 use native.Mathlib.Omega.{arith}

@@ -1,5 +1,5 @@
--- `faults::scan_operations` meets its contract. The invariant of its loop: no operation passed has a fault, so the scan is that of the operations
--- left, from the level that has been reached.
+-- `faults::scan_operations` meets its contract. The invariant of its loop: no operation passed has
+-- a fault, so the scan is that of the operations left, from the level that has been reached.
 -- Assumes nothing.
 use Prim.Native.Nat.{◌+◌, ◌≤◌, ◌-◌}
 use mathlib.Core.Path.{◌≡◌}

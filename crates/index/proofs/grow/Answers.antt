@@ -1,4 +1,5 @@
--- `index::grow` meets its contract. The invariant of its loop: the whole tree is what the nodes left make of the words.
+-- `index::grow` meets its contract. The invariant of its loop: the whole tree is what the nodes
+-- left make of the words.
 -- Assumes nothing.
 use Prim.Native.Nat.{ℕ, ◌+◌, ◌-◌}
 use native.Mathlib.Omega.{arith}

@@ -1,4 +1,5 @@
--- `index::walk` meets its contract. The invariant of its loop: the search from the root is that from the node reached, with steps enough left.
+-- `index::walk` meets its contract. The invariant of its loop: the search from the root is that
+-- from the node reached, with steps enough left.
 -- Assumes nothing.
 use Prim.Native.Nat.{ℕ, zero, suc, ◌+◌, ◌/◌, ◌≤◌, ◌<◌}
 use native.Mathlib.Omega.{arith}

@@ -1,4 +1,5 @@
--- `print::columns` meets its contract. The invariant of its loop is `Rest`: what is still to come after the first i numbers. The measure is how many those are.
+-- `print::columns` meets its contract. The invariant of its loop is `Rest`: what is still to come
+-- after the first i numbers. The measure is how many those are.
 -- Assumes nothing.
 use mathlib.Core.Path.{◌∙◌}
 use native.Mathlib.Omega.{arith}

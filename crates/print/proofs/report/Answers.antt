@@ -1,4 +1,5 @@
--- `print::report` meets its contract: the names line, the answer, and the other numbers with their line feed.
+-- `print::report` meets its contract: the names line, the answer, and the other numbers with their
+-- line feed.
 -- Assumes nothing.
 use Rattle.memory.specs.Text.{bytes}
 use Rattle.memory.specs.Names.{report_names}

@@ -1,4 +1,5 @@
--- `text::bytes` meets its contract. The invariant of its loop: the first i bytes of the text stand from `at` on. The measure is what is left of those that fit.
+-- `text::bytes` meets its contract. The invariant of its loop: the first i bytes of the text stand
+-- from `at` on. The measure is what is left of those that fit.
 -- Assumes nothing.
 use mathlib.Core.Path.{◌≡◌, refl, sym, ap, ◌∙◌}
 use mathlib.Core.List.{List}

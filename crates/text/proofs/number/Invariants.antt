@@ -1,4 +1,5 @@
--- `text::number` meets its contract. The invariant of its loop is `Laid`: the digits behind `first` stand in the array, and `left` is still to come.
+-- `text::number` meets its contract. The invariant of its loop is `Laid`: the digits behind `first`
+-- stand in the array, and `left` is still to come.
 -- The measure is `first`.
 -- Assumes nothing.
 use Rattle.text.proofs.Digits.{Laid}
