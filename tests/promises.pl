@@ -14,14 +14,16 @@
 #   - an edit that is not there,
 #   - a public function without a contract, or with a `requires`,
 #   - a name cited by README or a page of docs/ that the tree does not have.
-# With the word `edits`, after `rt ci`, it reads what the prover said of the edits: of a promise's
-# edit, that the promise's theorem is not proved (there, or in a lemma that it uses); of every edit,
-# that it was refused, and not because a proof asks for other needs than the code has.
+# With the word `edits` and a file with what `rt ci` printed, it reads the first error of each edit:
+# every edit was refused, and not only for a name that a proof cites or by a limit; and with a
+# promise's edit the promise's theorem is not proved. Where the first error is in a lemma that the
+# theorem uses, the edit is tried once more in a copy of the tree.
 # With the word `list` it prints the list with the numbers of the tree.
-# Run at the top of the repository: perl tests/promises.pl [edits | list]
+# Run at the top of the repository: perl tests/promises.pl [edits LOG | list]
 use strict;
 use warnings;
 use utf8;
+use File::Temp qw(tempdir);
 binmode STDOUT, ':utf8';
 
 my $list = 'tests/promises.txt';
@@ -100,21 +102,56 @@ sub theorems {
     return ($record // '') =~ /(\w+) = ([\w-]+)/g;
 }
 
-# What the prover said of the edits.
+# Takes the edit over a crate's files in a copy of the tree, and says whether the theorem is still
+# proved: a file of one declaration, that the theorem proves the statement, takes the place of the
+# crate's Promises.
+sub refuted {
+    my ($tree, $crate, $statement, $theorem, $edit) = @_;
+    my (%texts, $path, $old);
+    for (split /\n/, text("crates/$crate/must-fail/$edit.edit")) {
+        if    (/^file: (.*)$/) { $path = "crates/$crate/$1" }
+        elsif (/^old: (.*)$/)  { $old = $1 }
+        elsif (/^new: ?(.*)$/) {
+            my $new = $1;
+            $texts{$path} //= text($path);
+            $texts{$path} =~ s/\Q$old\E/$new/;
+        }
+    }
+    my $promises = "crates/$crate/proofs/Promises.antt";
+    my @uses = grep { /^use / } split /\n/, text($promises);
+    $texts{$promises} = join "\n", @uses, '', "pub promise : $statement", "promise = $theorem", '';
+    store("$tree/$_", $texts{$_}) for keys %texts;
+    my $said = qx{cd $tree/crates/$crate && rt check 2>&1};
+    store("$tree/$_", text($_)) for keys %texts;
+    return $said =~ m{^\./proofs/Promises\.antt:\d+:\d+: error: }m;
+}
+
+sub store {
+    my ($path, $text) = @_;
+    open(my $out, '>:utf8', $path) or die "$path: $!\n";
+    print {$out} $text;
+    close($out);
+}
+
+# What the prover said of the edits: the first error of each, as `rt ci` printed it.
 if (@ARGV && $ARGV[0] eq 'edits') {
+    my %said = text($ARGV[1] // '') =~ m{^rt: must-fail (\w+/\w+)\.edit: (.*)$}mg;
+    my $tree = tempdir(CLEANUP => 1);
+    system("cp crates.txt $tree && find crates -path '*/out' -prune -o -type f -print0"
+        . " | xargs -0 cp --parents -t $tree") == 0 or die "no copy of the tree\n";
     for (@promises) {
         my ($crate, $field, $statement, $edit) = @$_;
         my %filled = theorems($crate);
         my $theorem = $filled{$field} // '';
-        my $said = text("target/must-fail/$crate/$edit/.log");
-        test("$crate: $edit refuses $theorem", $said =~ /: error: `\Q$theorem\E`/);
+        my $first = ($said{"$crate/$edit"} // '') =~ /: error: `\Q$theorem\E`/;
+        my $refused = $first || refuted($tree, $crate, $statement, $theorem, $edit);
+        test("$crate: $edit refuses $theorem", $refused);
     }
     for my $edit (glob 'crates/*/must-fail/*.edit') {
         my ($crate, $label) = $edit =~ m{^crates/(\w+)/must-fail/(\w+)};
-        my $said = text("target/must-fail/$crate/$label/.log");
-        test("$edit: it is refused", $said =~ /^logic=not-proved/m);
-        my $unfit = $said =~ /has no `Need-|-spec`: expected type `tie\.Need-/;
-        test("$edit: the proof fits the code", !$unfit);
+        my $said = $said{"$crate/$label"} // '';
+        test("$edit: it is refused", $said =~ /^refused, as it must be/);
+        test("$edit: for a fact", $said !~ /^refused, as it must be \(only /);
     }
     print "$passed passed, $failed failed\n";
     exit($failed ? 1 : 0);
