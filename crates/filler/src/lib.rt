@@ -51,8 +51,7 @@ fn memory_of(code: u32) -> Known
 
 // Copies the init rows.
 fn copy_inits(n: usize, inits: &[u64], out: &mut [u64])
-    requires starting { 4 * n ≡ length inits.now }
-    requires out_room { 7 * n ≤ length out.old }
+    requires fits { (4 * n ≡ length inits.now) × (7 * n ≤ length out.old) }
     requires clean_inits { CleanInits inits.now }
     ensures { out.new ≡ laid out.old 0 (map bare (inputs_in inits.now)) }
 {
@@ -99,9 +98,7 @@ fn first_fault(
     ops: &[u64],
     scratch: &mut [u64],
 ) -> Fault
-    requires starting { 4 * n ≡ length inits.now }
-    requires size { n ≤ limit }
-    requires scratch_room { n ≤ length scratch.old }
+    requires fits { (4 * n ≡ length inits.now) × (n ≤ limit) × (n ≤ length scratch.old) }
     requires allowed { sized m n ≡ true }
     requires blank { Blank scratch.old }
     ensures fault { placed_of result ≡ rows_fault (modulus_of field) m (values_in inits.now) 1 (inputs_in inits.now) (inputs_in ops.now) }

@@ -23,9 +23,7 @@ fn width(m: Memory, n: usize, t: usize) -> usize
 
 // The search tree over the elements of a set, in the first n words.
 fn build_tree(n: usize, inits: &[u64], scratch: &mut [u64])
-    requires starting { 4 * n ≡ length inits.now }
-    requires scratch_room { n ≤ length scratch.old }
-    requires size { n ≤ limit }
+    requires fits { (4 * n ≡ length inits.now) × (n ≤ length scratch.old) × (n ≤ limit) }
     requires blank { Blank scratch.old }
     ensures { TreeBuilt n inits.now scratch.new }
 {
@@ -34,9 +32,7 @@ fn build_tree(n: usize, inits: &[u64], scratch: &mut [u64])
 
 // The scratch words before the first operation.
 pub(crate) fn prepare(m: Memory, n: usize, inits: &[u64], scratch: &mut [u64])
-    requires starting { 4 * n ≡ length inits.now }
-    requires scratch_room { n ≤ length scratch.old }
-    requires size { n ≤ limit }
+    requires fits { (4 * n ≡ length inits.now) × (n ≤ length scratch.old) × (n ≤ limit) }
     requires blank { Blank scratch.old }
     ensures { Prepared m n inits.now scratch.new }
 {

@@ -36,5 +36,5 @@ pub returns : goal.returns
 returns c =
     let inits = c.args.inits.now in
     let k = c.loop-k.k in
-    let past = drop_of_length-le (inputs_in inits) {i = k} (omega (arith, inputs_count inits c.args.n c.requires.starting)) in
+    let past = drop_of_length-le (inputs_in inits) {i = k} (omega (arith, inputs_count inits c.args.n c.requires.fits.0)) in
     sym (c.loop-k.invariant.2 ∙ ap (λ (is : List Input). laid c.loop-k.out (7 * k) (map bare is)) past ∙ laid_none c.loop-k.out (7 * k))

@@ -23,9 +23,11 @@ first_fault-fault-requires c =
     let all = c.requires.all in
     let proper = c.requires.proper in
     let size = allowed_size c.args.m c.args.n c.args.t proper in record {
-      starting = init_words_count rows c.args.n c.args.t all;
-      size = sized_limit c.args.m c.args.n size;
-      scratch_room = omega (arith, c.requires.scratch_used);
+      fits = (
+        init_words_count rows c.args.n c.args.t all,
+        sized_limit c.args.m c.args.n size,
+        omega (arith, c.requires.scratch_used),
+      );
       allowed = size;
       blank = c.requires.blank;
     }

@@ -8,9 +8,9 @@ use Rattle.filler.proofs.Tree.{tree_built}
 use Rattle.filler.proofs.write.build_tree.Goals as goal
 
 pub slice_bounds-grow-end-2 : goal.slice_bounds-grow-end-2
-slice_bounds-grow-end-2 c = sym (length-take-le c.args.n c.args.scratch.now c.requires.scratch_room)
+slice_bounds-grow-end-2 c = sym (length-take-le c.args.n c.args.scratch.now c.requires.fits.1)
 
 pub returns : goal.returns
 returns c =
-    let long : length c.grow.new.links ≡ c.args.n = omega (arith, c.grow.auto, length-take-le c.args.n c.args.scratch.now c.requires.scratch_room) in
-    tree_built c.args.n c.args.inits.now c.args.scratch.now _ c.requires.starting c.requires.scratch_room c.requires.size c.requires.blank long c.grow.ensures
+    let long : length c.grow.new.links ≡ c.args.n = omega (arith, c.grow.auto, length-take-le c.args.n c.args.scratch.now c.requires.fits.1) in
+    tree_built c.args.n c.args.inits.now c.args.scratch.now _ c.requires.fits.0 c.requires.fits.1 c.requires.fits.2 c.requires.blank long c.grow.ensures
