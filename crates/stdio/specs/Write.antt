@@ -2,7 +2,7 @@
 -- fails, and which bytes leave the program.
 -- Of a writer whose bytes are known, `Takes` says which of the text's it has.
 -- Assumes nothing.
-use Rattle.std.specs.Prelude.{ℕ, ◌<◌, ◌≡◌, Bool, cond, ltb, List, length, take, Option}
+use Rattle.std.specs.Prelude.{ℕ, ◌<◌, ◌≡◌, Bool, true, false, cond, ltb, List, length, take, Option}
 use Rattle.std.specs.Io.KnownBytes.{Appends, Keeps}
 use Rattle.stdio.specs.declared.Wrote.{Wrote}
 use Rattle.stdio.specs.declared.Wrote.TheVariants.{Short, Whole, Failed}
@@ -26,3 +26,9 @@ abbrev pub Takes : ℕ → Option (List ℕ) → Option (List ℕ) → List ℕ 
 Takes n old new text Short = Keeps old new
 Takes n old new text Whole = Appends old new (take n text)
 Takes n old new text Failed = IsPartly old new (take n text)
+
+-- of a writer whose bytes are known before and after, by whether all of a text was written: it has
+-- the text, or a part of it, from its front
+abbrev pub Prints : List ℕ → Option (List ℕ) → Option (List ℕ) → Bool → Type 0
+Prints text old new true = Appends old new text
+Prints text old new false = (k : ℕ) × Appends old new (take k text)
