@@ -7,7 +7,6 @@
 use field::Field;
 use field::moduli::Modulus;
 use field::wide::Field61;
-use libc::STDOUT_FILENO;
 
 const EDGES: [u64; 16] = [
     0,
@@ -29,9 +28,8 @@ const EDGES: [u64; 16] = [
 ];
 
 // A number on a line of its own.
-fn number(n: u64) {
-    io::print_decimal(STDOUT_FILENO, n);
-    io::write_all(STDOUT_FILENO, b"\n");
+fn number(rt: &impl Print, n: u64) {
+    let _ = println!(rt; "{n}");
 }
 
 // A step of a random generator (xorshift, 13, 7 and 17 digits).
@@ -114,12 +112,12 @@ fn more(s: Digests, q: u8, x: u64, y: u64, z: u64) -> Digests {
 }
 
 // The five digests.
-fn print(s: Digests) {
-    number(s.smaller);
-    number(s.larger);
-    number(s.first);
-    number(s.second);
-    number(s.small);
+fn print(rt: &impl Print, s: Digests) {
+    number(rt, s.smaller);
+    number(rt, s.larger);
+    number(rt, s.first);
+    number(rt, s.second);
+    number(rt, s.small);
 }
 
 // Two edges with every third.
@@ -134,25 +132,25 @@ fn thirds(before: Digests, x: u64, y: u64) -> Digests {
 }
 
 // An edge with all edges: the products, and the digests after every triple.
-fn edge(before: Digests, x: u64) -> Digests {
+fn edge(rt: &impl Print, before: Digests, x: u64) -> Digests {
     let mut s = before;
     let mut j: usize = 0;
     while j < 16 {
         let y = EDGES[j];
-        number(Field61::mul(x, y));
+        number(rt, Field61::mul(x, y));
         s = thirds(s, x, y);
         j += 1;
     }
-    print(s);
+    print(rt, s);
     s
 }
 
 // All edges.
-fn edges(before: Digests) -> Digests {
+fn edges(rt: &impl Print, before: Digests) -> Digests {
     let mut s = before;
     let mut i: usize = 0;
     while i < 16 {
-        s = edge(s, EDGES[i]);
+        s = edge(rt, s, EDGES[i]);
         i += 1;
     }
     s
@@ -180,18 +178,18 @@ fn draw(d: Drawn) -> Drawn {
 }
 
 // A block of them.
-fn block(before: Drawn) -> Drawn {
+fn block(rt: &impl Print, before: Drawn) -> Drawn {
     let mut d = before;
     let mut i: usize = 0;
     while i < 1000 {
         d = draw(d);
         i += 1;
     }
-    print(d.digests);
+    print(rt, d.digests);
     d
 }
 
-fn main() {
+fn main(rt: HostRuntime) {
     let none = Digests {
         smaller: 1,
         larger: 2,
@@ -201,11 +199,11 @@ fn main() {
     };
     let mut d = Drawn {
         at: 88172645463325252,
-        digests: edges(none),
+        digests: edges(&rt, none),
     };
     let mut i: usize = 0;
     while i < 100 {
-        d = block(d);
+        d = block(&rt, d);
         i += 1;
     }
 }

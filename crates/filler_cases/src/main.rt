@@ -4,82 +4,105 @@
 
 use field::moduli::Modulus;
 use filler::Filled;
-use libc::STDOUT_FILENO;
 
 // A number on a line of its own.
-fn number(n: u64) {
-    io::print_decimal(STDOUT_FILENO, n);
-    io::write_all(STDOUT_FILENO, b"\n");
+fn number(rt: &impl Print, n: u64) {
+    let _ = println!(rt; "{n}");
 }
 
 // The words of a slice, each on a line of its own.
-fn words(slice: &[u64]) {
+fn words(rt: &impl Print, slice: &[u64]) {
     let mut i = 0;
     while i < slice.len() {
-        number(slice[i]);
+        number(rt, slice[i]);
         i += 1;
     }
 }
 
-fn answer(f: Filled) {
+fn answer(rt: &impl Print, f: Filled) {
     match f {
         Filled::Rows(n) => {
-            io::write_all(STDOUT_FILENO, b"rows\n");
-            number(n as u64);
+            let _ = println!(rt; "rows");
+            number(rt, n as u64);
         }
         Filled::Refused(number_, place) => {
-            io::write_all(STDOUT_FILENO, b"refused\n");
-            number(number_ as u64);
-            number(place as u64);
+            let _ = println!(rt; "refused");
+            number(rt, number_ as u64);
+            number(rt, place as u64);
         }
     }
 }
 
 // Fills into the lent buffers, and prints the answer and what they then hold.
-fn case(memory: u32, size: u32, count: u32, rows: &[u64], out: &mut [u64], scratch: &mut [u64]) {
+fn case(
+    rt: &impl Print,
+    memory: u32,
+    size: u32,
+    count: u32,
+    rows: &[u64],
+    out: &mut [u64],
+    scratch: &mut [u64],
+) {
     let f = filler::fill(Modulus::M31, memory, size, count, rows, out, scratch);
-    answer(f);
-    io::write_all(STDOUT_FILENO, b"output\n");
-    words(out);
-    io::write_all(STDOUT_FILENO, b"scratch\n");
-    words(scratch);
+    answer(rt, f);
+    let _ = println!(rt; "output");
+    words(rt, out);
+    let _ = println!(rt; "scratch");
+    words(rt, scratch);
 }
 
 // No rows lent for a count of 1, and none for the scratch of a size of 1.
-fn too_short() {
+fn too_short(rt: &impl Print) {
     let mut none: [u64; 0] = [];
     let mut few = [7u64; 2];
-    case(4, 0, 1, &[6, 1, 0, 5], &mut none, &mut few);
+    case(rt, 4, 0, 1, &[6, 1, 0, 5], &mut none, &mut few);
     let mut out = [7u64; 14];
     let mut empty: [u64; 0] = [];
-    case(1, 1, 0, &[0, 0, 0, 5], &mut out, &mut empty);
+    case(rt, 1, 1, 0, &[0, 0, 0, 5], &mut out, &mut empty);
 }
 
 // A memory that no number stands for, a size above the limit, rows that are not size + count.
-fn turned_away() {
+fn turned_away(rt: &impl Print) {
     let mut out = [7u64; 3];
     let mut scratch = [9u64; 2];
-    case(5, 0, 0, &[0; 0], &mut out, &mut scratch);
-    case(0, 65537, 0, &[0; 0], &mut out, &mut scratch);
-    case(3, 1, 0, &[0, 0, 0, 5], &mut out, &mut scratch);
-    case(0, 0, 0, &[0, 0, 0, 5], &mut out, &mut scratch);
+    case(rt, 5, 0, 0, &[0; 0], &mut out, &mut scratch);
+    case(rt, 0, 65537, 0, &[0; 0], &mut out, &mut scratch);
+    case(rt, 3, 1, 0, &[0, 0, 0, 5], &mut out, &mut scratch);
+    case(rt, 0, 0, 0, &[0, 0, 0, 5], &mut out, &mut scratch);
 }
 
 // A run that is filled into dirty buffers: output past the last row stays, scratch ends 0.
-fn dirty() {
+fn dirty(rt: &impl Print) {
     let mut out = [7u64; 37];
     let mut scratch = [9u64; 6];
-    case(2, 1, 1, &[0, 0, 0, 5, 3, 0, 0, 5], &mut out, &mut scratch);
+    case(
+        rt,
+        2,
+        1,
+        1,
+        &[0, 0, 0, 5, 3, 0, 0, 5],
+        &mut out,
+        &mut scratch,
+    );
 }
 
 // A refused row: both buffers end 0, beyond the room too.
-fn refused() {
+fn refused(rt: &impl Print) {
     let mut out = [7u64; 37];
     let mut scratch = [9u64; 6];
-    case(2, 1, 1, &[0, 0, 0, 5, 3, 0, 0, 6], &mut out, &mut scratch);
+    case(
+        rt,
+        2,
+        1,
+        1,
+        &[0, 0, 0, 5, 3, 0, 0, 6],
+        &mut out,
+        &mut scratch,
+    );
     let mut big = [7u64; 36];
     let mut words = [9u64; 6];
     case(
+        rt,
         1,
         1,
         1,
@@ -90,10 +113,11 @@ fn refused() {
 }
 
 // A set with equal elements, looked up more than once: the first of equal elements gets all lookups.
-fn equal_elements() {
+fn equal_elements(rt: &impl Print) {
     let mut out = [7u64; 154];
     let mut scratch = [9u64; 22];
     case(
+        rt,
         2,
         5,
         4,
@@ -106,10 +130,10 @@ fn equal_elements() {
     );
 }
 
-fn main() {
-    too_short();
-    turned_away();
-    dirty();
-    refused();
-    equal_elements();
+fn main(rt: HostRuntime) {
+    too_short(&rt);
+    turned_away(&rt);
+    dirty(&rt);
+    refused(&rt);
+    equal_elements(&rt);
 }
