@@ -43,6 +43,13 @@ sub text {
     return scalar <$in>;
 }
 
+# The files of the crates with one of these endings, but for what rt makes.
+sub files {
+    my ($endings) = @_;
+    my @all = split /\n/, `find crates -path '*/out' -prune -o -type f -print`;
+    return grep { /\.(?:$endings)$/ } @all;
+}
+
 # A number for a text, whatever its comments and line breaks.
 sub number {
     my ($words) = @_;
@@ -221,7 +228,7 @@ for my $part (sort keys %{ { %families, %parts } }) {
 }
 
 # Every public function has a contract and asks nothing.
-for my $path (split /\n/, `find crates -name '*.rt'`) {
+for my $path (files('rt')) {
     my $source = text($path);
     while ($source =~ /^ *pub (?:extern "C" )?fn (\w+)(.*?)\{$/msg) {
         my ($name, $head) = ($1, $2);
@@ -243,7 +250,7 @@ sub names {
 
 # The names of the tree: by file, by crate, and all; of an edit its label.
 my (%in, %of, %known);
-for my $path (split /\n/, `find crates -name '*.antt' -o -name '*.rt' -o -name '*.edit'`) {
+for my $path (files('antt|rt|edit')) {
     my ($crate, $part, $file) = $path =~ m{^crates/(\w+)/([\w-]+)/(?:.*/)?([\w-]+)\.\w+$} or next;
     my $source = text($path);
     my @names = $part eq 'must-fail' ? ($file) : ($file, names($source, $path =~ /\.rt$/));
