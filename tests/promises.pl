@@ -69,15 +69,16 @@ for (grep { !/^#/ && /\S/ } split /\n/, text($list)) {
     else                                { push @promises, [split] }
 }
 
-# The statements of the tree: "crate statement" => text; those with a parameter; and its records:
-# "crate record" => text
-my (%statements, %families, %records);
+# The statements of the tree: "crate statement" => text, and => its file; those with a parameter;
+# and its records: "crate record" => text
+my (%statements, %stated, %families, %records);
 for my $path (glob 'crates/*/specs/*.antt') {
     my ($crate, $file) = $path =~ m{^crates/(\w+)/specs/(\w+)};
     my $source = text($path);
     my $stated = $file eq 'Statements' || $file eq 'Cases';
     while ($stated && $source =~ /^abbrev pub (\w+) : Type \d\n((?:.+\n)+)/mg) {
         $statements{"$crate $1"} = $2;
+        $stated{"$crate $1"} = $file;
     }
     while ($stated && $source =~ /^abbrev pub (\w+) : .* → Type \d\n((?:.+\n)+)/mg) {
         $families{"$crate $1"} = $2;
@@ -109,11 +110,17 @@ sub theorems {
     return ($record // '') =~ /(\w+) = ([\w-]+)/g;
 }
 
-# Takes the edit over a crate's files in a copy of the tree, and says whether the theorem is still
-# proved: a file of one declaration, that the theorem proves the statement, takes the place of the
-# crate's Promises.
-sub refuted {
-    my ($tree, $crate, $statement, $theorem, $edit) = @_;
+# Writes a text into a file.
+sub store {
+    my ($path, $text) = @_;
+    open(my $out, '>:utf8', $path) or die "$path: $!\n";
+    print {$out} $text;
+    close($out);
+}
+
+# The texts of a crate's files with an edit: path => text.
+sub edited {
+    my ($crate, $edit) = @_;
     my (%texts, $path, $old);
     for (split /\n/, text("crates/$crate/must-fail/$edit.edit")) {
         if    (/^file: (.*)$/) { $path = "crates/$crate/$1" }
@@ -124,35 +131,64 @@ sub refuted {
             $texts{$path} =~ s/\Q$old\E/$new/;
         }
     }
-    my $promises = "crates/$crate/proofs/Promises.antt";
-    my @uses = grep { /^use / } split /\n/, text($promises);
-    $texts{$promises} = join "\n", @uses, '', "pub promise : $statement", "promise = $theorem", '';
-    store("$tree/$_", $texts{$_}) for keys %texts;
-    my $said = qx{cd $tree/crates/$crate && rt check 2>&1};
-    store("$tree/$_", text($_)) for keys %texts;
-    return $said =~ m{^\./proofs/Promises\.antt:\d+:\d+: error: }m;
+    return %texts;
 }
 
-sub store {
-    my ($path, $text) = @_;
-    open(my $out, '>:utf8', $path) or die "$path: $!\n";
-    print {$out} $text;
-    close($out);
+# The theorems of a crate, among those given as [statement, theorem, edit], that are not proved with
+# the edit. It is tried in a copy of the tree, where one declaration, that the theorem proves the
+# statement, takes the place of the crate's Promises.
+sub refuted {
+    my ($crate, @tries) = @_;
+    my $tree = tempdir(CLEANUP => 1);
+    system("cp crates.txt $tree && find crates -path '*/out' -prune -o -type f -print0"
+        . " | xargs -0 cp --parents -t $tree") == 0 or die "no copy of the tree\n";
+    my $promises = "crates/$crate/proofs/Promises.antt";
+    my @uses = grep { /^use / } split /\n/, text($promises);
+    my @refuted;
+    for (@tries) {
+        my ($statement, $theorem, $edit) = @$_;
+        my %texts = edited($crate, $edit);
+        my $file = $stated{"$crate $statement"};
+        my $use = "use Rattle.$crate.specs.$file.{$statement}";
+        my $promise = "pub promise : $statement\npromise = $theorem\n";
+        $texts{$promises} = join "\n", @uses, $use, '', $promise;
+        store("$tree/$_", $texts{$_}) for keys %texts;
+        my $said = qx{cd $tree/crates/$crate && rt check 2>&1};
+        store("$tree/$_", text($_)) for keys %texts;
+        my $unproved = qr/ on `\Q$theorem\E`, which was (?:not admitted|rejected)/;
+        push @refuted, $theorem if $said =~ m{^\./proofs/Promises\.antt:.*: error: .*$unproved}m;
+    }
+    return @refuted;
 }
 
 # What the prover said of the edits: the first error of each, as `rt ci` printed it.
 if (@ARGV && $ARGV[0] eq 'edits') {
     my %said = text($ARGV[1] // '') =~ m{^rt: must-fail (\w+/\w+)\.edit: (.*)$}mg;
-    my $tree = tempdir(CLEANUP => 1);
-    system("cp crates.txt $tree && find crates -path '*/out' -prune -o -type f -print0"
-        . " | xargs -0 cp --parents -t $tree") == 0 or die "no copy of the tree\n";
+    my (%theorem, %refuted, %tries, %from);
     for (@promises) {
         my ($crate, $field, $statement, $edit) = @$_;
         my %filled = theorems($crate);
-        my $theorem = $filled{$field} // '';
-        my $first = ($said{"$crate/$edit"} // '') =~ /: error: `\Q$theorem\E`/;
-        my $refused = $first || refuted($tree, $crate, $statement, $theorem, $edit);
-        test("$crate: $edit refuses $theorem", $refused);
+        my $theorem = $theorem{"$crate $field"} = $filled{$field} // '';
+        $refuted{"$crate $field"} = ($said{"$crate/$edit"} // '') =~ /: error: `\Q$theorem\E`/;
+        push @{ $tries{$crate} }, [$statement, $theorem, $edit] if !$refuted{"$crate $field"};
+    }
+    # the crates beside each other
+    for my $crate (sort keys %tries) {
+        my $child = open($from{$crate}, '-|') // die "fork: $!\n";
+        next if $child;
+        print join ' ', refuted($crate, @{ $tries{$crate} });
+        exit 0;
+    }
+    my %found;
+    for my $crate (sort keys %from) {
+        my $line = readline($from{$crate}) // '';
+        $found{"$crate $_"} = 1 for split ' ', $line;
+    }
+    for (@promises) {
+        my ($crate, $field, $statement, $edit) = @$_;
+        my $theorem = $theorem{"$crate $field"};
+        my $refuted = $refuted{"$crate $field"} || $found{"$crate $theorem"};
+        test("$crate: $edit refuses $theorem", $refuted);
     }
     for my $edit (glob 'crates/*/must-fail/*.edit') {
         my ($crate, $label) = $edit =~ m{^crates/(\w+)/must-fail/(\w+)};
