@@ -16,7 +16,7 @@ use Rattle.memory.specs.Text.{bytes}
 use Rattle.memory.specs.Bytes.{comma, feed}
 use Rattle.memory.specs.Names.{is_op, op_name, row_names, refusal_names}
 use Rattle.runs.specs.Honest.{Input, bare, end_row, range_rows_from, Cell, cell, ram_age, ram_cells, ram_ends, ram_from, rom_ends_from, rom_from, set_ends_from, set_from, stack_ends, pop_time, stack_from, queue_from, operations_filled, filled_rows}
-use Rattle.runs.specs.Filler.{inputs_in, room, rows_fault}
+use Rattle.runs.specs.Filler.{inputs_in, rows_fault}
 use Rattle.memory.specs.Print.{digits_onto, number_text, numbers_text, row_text, rows_text, refusal_text, filled_text}
 use Rattle.runs.specs.FillFile.{fill_limit, run_text}
 use Rattle.memory.specs.Pieces.{bytes_in, end_in}

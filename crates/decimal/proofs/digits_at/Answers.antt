@@ -1,7 +1,7 @@
 -- `decimal::digits_at` meets its contract. The loop's invariant: the digits that are left, after the number of those before them, read as all the digits do.
 -- Assumes nothing.
-use Rattle.std.proofs.Common.{◌-◌, arith, rules}
-use Rattle.decimal.proofs.Digits.{digit_other, digit_number, digit_is, Running, running_begins, running_goes, running_stops, running_over, running_fits}
+use Rattle.std.proofs.Common.{arith}
+use Rattle.decimal.proofs.Digits.{digit_other, digit_number, digit_is, running_begins, running_goes, running_stops, running_over, running_fits}
 use Rattle.decimal.proofs.digits_at.Goals as goal
 
 pub loop-i-init : goal.loop-i-init

@@ -1,8 +1,8 @@
 -- `decimal::number_at` meets its contract: after a comma, where the digits end and their first byte decide whether they are a number.
 -- Assumes nothing.
-use Rattle.std.proofs.Common.{◌≡◌, ◌+◌, drop, sym, ◌∙◌, arith, rules}
-use Rattle.decimal.specs.Numbers.{most, digits_of, number_of, number_from}
-use Rattle.decimal.proofs.Numbers.{run_at, number_past, number_uncomma, number_comma, digits_most, digits_end, found_none, found_zero, found_long, found_one}
+use Rattle.std.proofs.Common.{sym, ◌∙◌, arith, rules}
+use Rattle.decimal.specs.Numbers.{most}
+use Rattle.decimal.proofs.Numbers.{number_past, number_uncomma, number_comma, digits_most, digits_end, found_none, found_zero, found_long, found_one}
 use Rattle.decimal.proofs.number_at.Goals as goal
 
 pub returns-then-text-at : goal.returns-then-text-at

@@ -1,6 +1,5 @@
 -- `factors::multiply` meets its contract: each op's function ensures it, and a row of no op changes nothing.
 -- Assumes nothing.
-use borrow.Author.Rules.{rules}
 use mathlib.Core.Path.{refl}
 use Rattle.algebra.specs.Hash.{hash_from}
 use Rattle.memory.specs.Equations.{pop_lookup}

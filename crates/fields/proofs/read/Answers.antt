@@ -2,15 +2,12 @@
 -- slice, it is known whether they are below the modulus, and those that are left are still to be
 -- read.
 -- Assumes nothing.
-use Prim.Native.Nat.{◌-◌}
 use mathlib.Core.Path.{refl}
 use mathlib.Core.Logic.{⊎_elim}
 use native.Mathlib.Omega.{arith}
-use lib.ListN.{length, length-set}
-use borrow.Author.Rules.{rules}
-use borrow.Author.Tests.{not-true, not-false}
+use lib.ListN.{length-set}
 use Rattle.fields.specs.Keyed.{taken_of}
-use Rattle.fields.proofs.Fields.{Reading, reading_begins, reading_goes, reading_fails, reading_ends, reading_over, line_long, line_broken}
+use Rattle.fields.proofs.Fields.{reading_begins, reading_goes, reading_fails, reading_ends, reading_over, line_long, line_broken}
 use Rattle.fields.proofs.read.Goals as goal
 
 pub returns-then-text-gt-LONGEST : goal.returns-then-text-gt-LONGEST

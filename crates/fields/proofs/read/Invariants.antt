@@ -3,14 +3,8 @@
 -- read.
 -- Assumes nothing.
 use Prim.Native.Nat.{◌-◌}
-use mathlib.Core.Path.{refl}
-use mathlib.Core.Logic.{⊎_elim}
-use native.Mathlib.Omega.{arith}
-use lib.ListN.{length, length-set}
-use borrow.Author.Rules.{rules}
-use borrow.Author.Tests.{not-true, not-false}
-use Rattle.fields.specs.Keyed.{taken_of}
-use Rattle.fields.proofs.Fields.{Reading, reading_begins, reading_goes, reading_fails, reading_ends, reading_over, line_long, line_broken}
+use lib.ListN.{length}
+use Rattle.fields.proofs.Fields.{Reading}
 use Rattle.fields.proofs.read.Given as goal
 
 abbrev pub invariant-loop-i : goal.invariant-loop-i

@@ -1,13 +1,7 @@
 -- `lines::row_line` meets its contract: the row is that of the line's fields.
 -- Assumes nothing.
-use mathlib.Core.Path.{◌≡◌}
 use native.Mathlib.Omega.{arith}
-use borrow.Author.Rules.{rules}
-use borrow.Author.Tests.{not-true, not-false}
-use Rattle.field.specs.Moduli.{modulus_of}
-use Rattle.memory.specs.Bytes.{fields_of}
-use Rattle.fields.proofs.Parts.{keyed, by_key, says_unread, says_large, says_key}
-use Rattle.keys.proofs.Keys.{Bytes}
+use Rattle.fields.proofs.Parts.{says_unread, says_large, says_key}
 use Rattle.lines.proofs.Parse.{on_keyed, row_of, row_keyed}
 use Rattle.lines.proofs.row_line.Goals as goal
 

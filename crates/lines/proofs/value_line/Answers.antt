@@ -1,14 +1,9 @@
 -- `lines::value_line` meets its contract: the values are those of the line's fields.
 -- Assumes nothing.
-use mathlib.Core.Path.{◌≡◌, ◌∙◌}
+use mathlib.Core.Path.{◌∙◌}
 use native.Mathlib.Omega.{arith}
-use borrow.Author.Rules.{rules}
-use borrow.Author.Tests.{not-true, not-false}
-use Rattle.field.specs.Moduli.{modulus_of}
-use Rattle.memory.specs.Bytes.{fields_of}
-use Rattle.fields.proofs.Parts.{keyed, by_key, says_unread, says_large, says_key}
+use Rattle.fields.proofs.Parts.{says_unread, says_large, says_key}
 use Rattle.lines.specs.Answers.{opening_of}
-use Rattle.keys.proofs.Keys.{Bytes}
 use Rattle.lines.proofs.Parse.{on_keyed, values_keyed}
 use Rattle.lines.proofs.value_line.Goals as goal
 

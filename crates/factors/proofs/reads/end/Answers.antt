@@ -1,6 +1,5 @@
 -- `reads::end` meets its contract: with the op known the definitions compute, and each product is what the call for it ensures.
 -- Assumes nothing.
-use borrow.Author.Rules.{rules}
 use Rattle.memory.specs.Equations.{pop_lookup}
 use Rattle.memory.specs.Names.{op_code, is_op}
 use Rattle.memory.specs.Step.{multiply, multiplied, written_by, supplied_by, looked_by, lookups_by, enqueued_by}
