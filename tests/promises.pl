@@ -15,9 +15,10 @@
 #   - a public function without a contract, or with a `requires`,
 #   - a name cited by README or a page of docs/ that the tree does not have.
 # With the word `edits` and a file with what `rt ci` printed, it reads the first error of each edit:
-# every edit was refused, and not only for a name that a proof cites or by a limit; and with a
-# promise's edit the promise's theorem is not proved. Where the first error is in a lemma that the
-# theorem uses, the edit is tried once more in a copy of the tree.
+# every edit was refused, and not only for a name that a proof cites or by a limit, nor because the
+# code has other goals than the proof has answers for, but for the edits that the list names with an
+# open goal; and with a promise's edit the promise's theorem is not proved. Where the first error is
+# in a lemma that the theorem uses, the edit is tried once more in a copy of the tree.
 # With the word `list` it prints the list with the numbers of the tree.
 # Run at the top of the repository: perl tests/promises.pl [edits LOG | list]
 use strict;
@@ -61,11 +62,13 @@ sub number {
 }
 
 # The promises of the list: each as [crate, field, statement, edit, number]; "crate record" => its
-# clauses, and => its number; "crate statement" with a parameter => its number
-my (@promises, %clauses, %numbers, %parts);
+# clauses, and => its number; "crate statement" with a parameter => its number; "crate edit" => the
+# goal that stays open with it
+my (@promises, %clauses, %numbers, %parts, %open);
 for (grep { !/^#/ && /\S/ } split /\n/, text($list)) {
     if    (/^(\w+ \w+): (.*) = (\d+)$/) { ($clauses{$1}, $numbers{$1}) = ($2, $3) }
     elsif (/^(\w+ \w+) = (\d+)$/)       { $parts{$1} = $2 }
+    elsif (/^open (\w+ \w+) (\S+)$/)    { $open{$1} = $2 }
     else                                { push @promises, [split] }
 }
 
@@ -194,6 +197,9 @@ if (@ARGV && $ARGV[0] eq 'edits') {
         my ($crate, $label) = $edit =~ m{^crates/(\w+)/must-fail/(\w+)};
         my $said = $said{"$crate/$label"} // '';
         test("$edit: it is refused", $said =~ /^refused, as it must be/);
+        # a note tells a goal that has no answer: where the proof no longer fits the code, say
+        my ($goal) = $said =~ /^refused, as it must be: note: .*\(`([\w-]+)`\)/;
+        test("$edit: the proof fits the code", ($goal // '') eq ($open{"$crate $label"} // ''));
         test("$edit: for a fact", $said !~ /^refused, as it must be \(only /);
     }
     print "$passed passed, $failed failed\n";

@@ -1,6 +1,6 @@
 -- A comma and a number after it, byte by byte: "Numbers are unsigned decimal".
 -- Assumes nothing.
-use Rattle.std.specs.Prelude.{ℕ, zero, suc, ◌+◌, cond, List, [], ◌∷◌, length, ◌==◌}
+use Rattle.std.specs.Prelude.{ℕ, zero, suc, ◌+◌, cond, List, [], ◌∷◌, length, eqb}
 use Rattle.memory.specs.Bytes.{most_digits, comma, digit, decimal_from, numeral}
 use Rattle.decimal.specs.declared.Run.{Run}
 use Rattle.decimal.specs.declared.Number.{Number}
@@ -27,4 +27,4 @@ number_of from ds = cond (numeral ds) (Read (decimal_from 0 ds) (from + length d
 -- a comma and a number, where a text begins with them, and stands at a position
 unfoldable pub number_from : ℕ → List ℕ → Number
 number_from from [] = Unread
-number_from from (b ∷ bs) = cond (b == comma) (number_of (from + 1) (run most bs)) Unread
+number_from from (b ∷ bs) = cond (eqb b comma) (number_of (from + 1) (run most bs)) Unread

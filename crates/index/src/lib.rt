@@ -76,7 +76,7 @@ fn walk(n: usize, inits: &[u64], links: &[u64], value: u64) -> Stop
 // Node k is put where the search for its value ends, unless an earlier node has that value.
 fn insert(n: usize, k: usize, inits: &[u64], links: &mut [u64])
     requires rows { Rows n inits.now }
-    requires k_lt_n { k < n }
+    requires node { k < n }
     ensures { links.new ≡ inserted (values_in inits.now) links.old k }
 {
     let value = inits[4 * k + 3];

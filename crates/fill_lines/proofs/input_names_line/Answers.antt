@@ -4,9 +4,6 @@ use Rattle.memory.specs.Text.{bytes}
 use Rattle.memory.specs.Names.{input_names}
 use Rattle.fill_lines.proofs.input_names_line.Goals as goal
 
--- OPEN: slice-aggregate-names-line : tie.Need-slice-aggregate-names-line
--- slice-aggregate-names-line c = search rules
-
 pub returns : goal.returns
 unfolding input_names bytes
 returns c = c.names_line.ensures

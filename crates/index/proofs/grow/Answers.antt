@@ -15,7 +15,7 @@ unfolding grown
 loop-k-init c = (omega arith, refl, ap (λ (m : ℕ). grown_from (values_in c.args.inits.now) 1 (m - 1) c.args.links.now) (values_many c.args.inits.now _ (omega arith) (omega arith)))
 
 pub insert-requires : goal.insert-requires
-insert-requires c = record { rows = record { some = omega arith; held = omega arith; whole = omega arith }; k_lt_n = c.loop-k-test.true }
+insert-requires c = record { rows = record { some = omega arith; held = omega arith; whole = omega arith }; node = c.loop-k-test.true }
 
 pub loop-k-preserved : goal.loop-k-preserved
 loop-k-preserved c = (omega arith, omega (arith, c.insert.auto), c.loop-k.invariant.2 ∙ grown_next (values_in c.args.inits.now) c.loop-k.links _ c.loop-k.k c.loop-k-test.true ∙ ap (grown_from (values_in c.args.inits.now) (c.loop-k.k + 1) _) (sym c.insert.ensures))

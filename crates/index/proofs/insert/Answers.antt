@@ -12,7 +12,7 @@ pub returns-then-inits-node : goal.returns-then-inits-node
 returns-then-inits-node c =
     let values = values_in c.args.inits.now in
     let at = values_at c.args.inits.now in
-    let own = at c.args.k (omega (arith, c.requires.rows.held, c.requires.k_lt_n)) in
+    let own = at c.args.k (omega (arith, c.requires.rows.held, c.requires.node)) in
     let found = at c.walk-stop.result.node (omega (arith, c.requires.rows.held, c.walk-stop.ensures.inside)) in
     sym (inserted_there values c.args.links.now c.args.k _ c.walk-stop.result own c.walk-stop.ensures.stop (found ∙ c.if-inits-node.true))
 
@@ -20,7 +20,7 @@ pub returns-then-node-links : goal.returns-then-node-links
 returns-then-node-links c =
     let values = values_in c.args.inits.now in
     let at = values_at c.args.inits.now in
-    let own = at c.args.k (omega (arith, c.requires.rows.held, c.requires.k_lt_n)) in
+    let own = at c.args.k (omega (arith, c.requires.rows.held, c.requires.node)) in
     let found = at c.walk-stop.result.node (omega (arith, c.requires.rows.held, c.walk-stop.ensures.inside)) in
     let new = inserted_new values c.args.links.now c.args.k _ c.walk-stop.result c.join.result own c.walk-stop.ensures.stop in
     sym (new (λ e. c.if-inits-node.false (sym found ∙ e)) c.join.ensures)
@@ -29,7 +29,7 @@ pub returns-else-node-links : goal.returns-else-node-links
 returns-else-node-links c =
     let values = values_in c.args.inits.now in
     let at = values_at c.args.inits.now in
-    let own = at c.args.k (omega (arith, c.requires.rows.held, c.requires.k_lt_n)) in
+    let own = at c.args.k (omega (arith, c.requires.rows.held, c.requires.node)) in
     let found = at c.walk-stop.result.node (omega (arith, c.requires.rows.held, c.walk-stop.ensures.inside)) in
     let new = inserted_new values c.args.links.now c.args.k _ c.walk-stop.result _ own c.walk-stop.ensures.stop in
     sym (new (λ e. c.if-inits-node.false (sym found ∙ e)) refl ∙ set_out c.args.links.now c.walk-stop.result.node _ c.if-node-links.false)

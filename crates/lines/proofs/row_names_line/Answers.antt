@@ -4,9 +4,6 @@ use Rattle.memory.specs.Text.{bytes}
 use Rattle.memory.specs.Names.{row_names}
 use Rattle.lines.proofs.row_names_line.Goals as goal
 
--- OPEN: slice-aggregate-names-line : tie.Need-slice-aggregate-names-line
--- slice-aggregate-names-line c = search rules
-
 pub returns : goal.returns
 unfolding row_names bytes
 returns c = c.names_line.ensures
