@@ -2,7 +2,7 @@
 -- Assumes nothing.
 -- must-fail/shuffle_bound_one_less.edit, shuffle_bound_power.edit and words_hash_power.edit use
 -- `◌-◌`
-use Rattle.std.specs.Prelude.{ℕ, suc, ◌+◌, ◌*◌, ◌^◌, ◌%◌, ◌≤◌, ◌<◌, ◌≡◌, ◌⊎◌, ◌≢◌, Bool, false, ◌||◌, List, map, eqb, T, length}
+use Rattle.std.specs.Prelude.{ℕ, suc, ◌+◌, ◌-◌, ◌*◌, ◌^◌, ◌%◌, ◌≤◌, ◌<◌, ◌≡◌, ◌⊎◌, ◌≢◌, Bool, false, ◌||◌, List, map, eqb, T, length}
 use Rattle.algebra.specs.Sum.{bit, sum, count, counts, sums}
 use Rattle.algebra.specs.Prime.{Prime, certified}
 use Rattle.algebra.specs.Vector.{inner, along, remainders, Below, AllZero, Wide}

@@ -2,7 +2,7 @@
 -- the rows; the factor of a record, the products, and when a shuffle balances. A modulus q is document 01's p.
 -- Assumes nothing.
 -- `◌-◌` and `length` are used by edits of must-fail/ alone
-use Rattle.std.specs.Prelude.{ℕ, zero, suc, ◌+◌, ◌*◌, Bool, ◌&&◌, cond, List, [], ◌∷◌, ◌++◌, map, eqb, take, drop}
+use Rattle.std.specs.Prelude.{ℕ, zero, suc, ◌+◌, ◌-◌, ◌*◌, Bool, ◌&&◌, cond, List, [], ◌∷◌, ◌++◌, map, eqb, length, take, drop}
 use Rattle.algebra.specs.Modulo.{plus, minus, times}
 use Rattle.algebra.specs.Hash.{hash}
 use Rattle.memory.specs.declared.Memory.{Memory}
