@@ -98,7 +98,7 @@ if (@ARGV && $ARGV[0] eq 'list') {
             $_ = "$1: $2 = " . number($records{$1} // '');
         } elsif (/^(\w+ \w+) = \d+$/) {
             $_ = "$1 = " . number($families{$1} // '');
-        } elsif (/^(\w+) (\w+) (\w+) (\w+)(?: \d+)?$/) {
+        } elsif (!/^open / && /^(\w+) (\w+) (\w+) (\w+)(?: \d+)?$/) {
             $_ = "$1 $2 $3 $4 " . number($statements{"$1 $3"} // '');
         }
         print "$_\n";

@@ -1,6 +1,6 @@
--- What the program does with an input and an output whose bytes are known: what it writes is a part of
--- the two lines, from their front, and all of them where it answers so. Free is whether it does: a
--- read or a write may fail.
+-- What the program does with an input and an output whose bytes are known: what it writes is a part
+-- of the two lines, from their front, and all of them where it answers so. Free is whether it does:
+-- a read or a write may fail.
 -- Assumes nothing.
 use Rattle.std.specs.Prelude.{ℕ, List, Bool, Option, IfSome}
 use Rattle.field.specs.Field.{p}

@@ -1,0 +1,8 @@
+-- Every statement of this crate, as the fields of one record: a proof of it is a proof of each.
+-- (Promises: promises)
+-- Assumes nothing.
+use Rattle.stdio.specs.Statements.{KnownRead, KnownWrite}
+
+pub record Promises : Type 0 where
+  pub read : KnownRead
+  pub write : KnownWrite
