@@ -12,7 +12,8 @@
 #     record of the list with other clauses,
 #   - a statement or a record whose text has another number: a hypothesis more, say,
 #   - an edit that is not there,
-#   - a public function without a contract, or with a `requires`,
+#   - a public function, or one of a public trait, without a contract, or with a `requires`, and a
+#     conversion that does not say what it gives,
 #   - a name cited by README or a page of docs/ that the tree does not have.
 # With the word `edits` and a file with what `rt ci` printed, it reads the first error of each edit:
 # every edit was refused, and not only for a name that a proof cites or by a limit, nor because the
@@ -277,12 +278,25 @@ for my $path (files('rt')) {
         my $stated = $head =~ /\bensures\b/ && $head !~ /\brequires\b/;
         test("$path: $name has a contract and no requires", $stated);
     }
+    # So has each function of a public trait, and a conversion says what it gives.
+    while ($source =~ /^pub trait (\w+)[^\n]*\{\n(.*?)^\}/msg) {
+        my ($trait, $body) = ($1, $2);
+        while ($body =~ /^    fn (\w+)(.*?);$/msg) {
+            my ($name, $head) = ($1, $2);
+            my $stated = $head =~ /\bensures\b/ && $head !~ /\brequires\b/;
+            test("$path: $name of $trait has a contract and no requires", $stated);
+        }
+    }
+    while ($source =~ /^impl (?:Try)?From<(\w+)> for (\w+) \{\n(.*?)^\}/msg) {
+        my ($from, $to, $body) = ($1, $2, $3);
+        test("$path: what $to has from $from", $body =~ /^    ghost (?:try_)?from_gives = /m);
+    }
 }
 
 # The names that a file of code or of definitions has.
 sub names {
     my ($source, $code) = @_;
-    return ($source =~ /\b(?:fn|struct|enum|const|mod|type)\s+(\w+)/g,
+    return ($source =~ /\b(?:fn|struct|enum|trait|const|mod|type)\s+(\w+)/g,
         $source =~ /^\s+(?:pub )?(\w+)(?:\(.*\)|: .*| \{.*)?,$/mg) if $code;
     my $kinds = qr/(?:(?:unfoldable|abbrev|pub|record|data) )*/;
     my $parameters = qr/(?:\{[^}]*\} |\([^)]*\) )*/;

@@ -3,4 +3,4 @@
 use Rattle.check_program.specs.Statements.{CheckPrinted}
 
 pub check_printed : CheckPrinted
-check_printed file old new = ((λ h. h), (λ h. h))
+check_printed file old new = ((λ h. h), (λ e h. h))

@@ -1,8 +1,9 @@
 // Rows to an answer: the fresh state of a value line, one row, the end of file, and what is printed of a state.
-#![tactic(auto)]
+#![tactic(auto, unfolding(memory::specs::Step::with_context, memory::specs::Step::take_row, memory::specs::Step::passed_row, memory::specs::Step::fresh_context, memory::specs::Step::fresh_products, memory::specs::Step::fresh_of, crate::specs::Unread::unread_of, memory::specs::Step::take_parsed, memory::specs::Rows::row_below, memory::specs::Step::step_of, memory::specs::Step::end_of, memory::specs::Step::report_of, memory::specs::File::refused, memory::specs::Step::answer_of, memory::specs::Step::lent_step, memory::specs::Step::lent_end, memory::specs::Step::lent_answer,), using(memory::proofs::Fold::lent_ended_answer,),)]
 
 use field::moduli::Modulus;
-use memory::{Challenge, Context, Lent, Memory, Parsed, Products, Report, State, numbers};
+use memory::faults::{Fault, number};
+use memory::{Context, Lent, Products, Report, Row, State, Values};
 use rules::counters;
 
 mod state;
@@ -20,50 +21,49 @@ fn fault_line(fault: u32) -> u32
 }
 
 // "The value line makes a fresh state": products start at 1, hashes at 0. Values with a fault make a state that has refused.
-pub fn fresh(k: Modulus, memory: Memory, size: u32, count: u32, challenge: Challenge) -> State
-    ensures { result ≡ fresh_of (modulus_of k) memory size count challenge }
+pub fn fresh(k: Modulus, values: Values) -> State
+    ensures { result ≡ fresh_of (modulus_of k) values.memory values.size values.count values.challenge }
 {
-    let fault = values::fault(k, memory, size, count, challenge);
-    let context = Context {
-        memory,
-        size,
-        count,
-        passed: 0,
-        pushed: 0,
-        popped: 0,
-        depths: 1,
-        inputs: 0,
-        mults: 0,
-        answer: fault,
-        line: fault_line(fault),
-        ended: false,
-    };
-    let products = Products {
-        written: 1,
-        read: 1,
-        supplied: 1,
-        looked: 1,
-        enqueued: 0,
-        dequeued: 0,
-    };
+    let fault = number(&values::fault(k, values));
     State {
-        context,
-        challenge,
-        products,
+        context: Context {
+            memory: values.memory,
+            size: values.size,
+            count: values.count,
+            passed: 0,
+            pushed: 0,
+            popped: 0,
+            depths: 1,
+            inputs: 0,
+            mults: 0,
+            answer: fault,
+            line: fault_line(fault),
+            ended: false,
+        },
+        challenge: values.challenge,
+        products: Products {
+            written: 1,
+            read: 1,
+            supplied: 1,
+            looked: 1,
+            enqueued: 0,
+            dequeued: 0,
+        },
     }
 }
 
 // The number of a line that reads as no row: 3, and any other fault counts as 2.
-fn unread_fault(parsed: Parsed) -> u32
+fn unread_fault(parsed: Result<Row, u32>) -> u32
     ensures { result ≡ unread_of parsed }
 {
+    let large = u32::from(Fault::TooLarge);
     match parsed {
-        Parsed::Sound(_) => 0,
-        Parsed::Fault(fault) => {
-            if fault == numbers::TOO_LARGE {
-                numbers::TOO_LARGE
+        Ok(_) => 0,
+        Err(fault) => {
+            if fault == large {
+                large
             } else {
-                numbers::UNREADABLE
+                u32::from(Fault::Unreadable)
             }
         }
     }
@@ -71,35 +71,36 @@ fn unread_fault(parsed: Parsed) -> u32
 
 // A row that is due, as its line reads. A line that reads as none is refused with its number, on
 // the next line; a number of the modulus or more is 3.
-fn take(k: Modulus, s: State, parsed: Parsed) -> State
+fn take(k: Modulus, s: State, parsed: Result<Row, u32>) -> State
     ensures { result ≡ take_parsed (modulus_of k) s parsed }
 {
-    let Parsed::Sound(row) = parsed else {
+    let Ok(row) = parsed else {
         return state::refuse(s, unread_fault(parsed));
     };
-    if !values::below(
-        k,
+    let numbers = [
         row.guard,
         row.addr,
         row.value,
         row.old,
         row.time,
         row.version,
-    ) {
-        return state::refuse(s, numbers::TOO_LARGE);
+    ];
+    if !values::below(k, numbers) {
+        return state::refuse(s, u32::from(Fault::TooLarge));
     }
     state::take_row(k, s, row)
 }
 
-// One row, as its line reads. "a surplus line is 7 without being read"
-pub fn step(k: Modulus, s: State, parsed: Parsed) -> State
+// One row, as its line reads. "a surplus line is 7 without being read". For a line that reads as
+// none a caller may hand on any number, and not only that of a `Fault`.
+pub fn step(k: Modulus, s: State, parsed: Result<Row, u32>) -> State
     ensures { result ≡ step_of (modulus_of k) s parsed }
 {
     if !answers::takes_rows(s.context) {
         return s;
     }
     if due::total(s.context) <= s.context.passed as u64 {
-        return state::refuse(s, numbers::NOT_COMPLETE);
+        return state::refuse(s, u32::from(Fault::NotComplete));
     }
     take(k, s, parsed)
 }
@@ -111,9 +112,10 @@ pub fn end(s: State) -> State
     if !answers::takes_rows(s.context) {
         return s;
     }
-    let mut o = s;
-    o.context = answers::close(s.context, s.products);
-    o
+    State {
+        context: answers::close(s.context, s.products),
+        ..s
+    }
 }
 
 // A report of these counters.
@@ -139,7 +141,7 @@ pub fn report(s: State) -> Report
         return reported(0, 0, s.context.inputs, s.context.mults);
     }
     let line = counters::raise(s.context.passed, memory::FIRST_LINE as u64);
-    reported(numbers::NOT_COMPLETE, line, 0, 0)
+    reported(u32::from(Fault::NotComplete), line, 0, 0)
 }
 
 // What a call on a lent state answers: 0 and 0 where the state still takes rows, and else what is
@@ -154,34 +156,33 @@ pub fn answer(s: State) -> Report
 }
 
 // A row, the end of file and the answer of a state with its modulus.
-fn lent_step(l: Lent, parsed: Parsed) -> Lent
+fn lent_step(l: Lent, parsed: Result<Row, u32>) -> Lent
     ensures { result ≡ lent_step l parsed }
 {
-    let field = l.field;
-    let before = l.state;
-    let state = step(field, before, parsed);
-    Lent { field, state }
+    Lent {
+        state: step(l.field, l.state, parsed),
+        ..l
+    }
 }
 
 fn lent_end(l: Lent) -> Lent
     ensures { result ≡ lent_end l }
 {
-    let field = l.field;
-    let before = l.state;
-    let state = end(before);
-    Lent { field, state }
+    Lent {
+        state: end(l.state),
+        ..l
+    }
 }
 
 fn lent_answer(l: Lent) -> Report
     ensures { result ≡ lent_answer l }
 {
-    let state = l.state;
-    answer(state)
+    answer(l.state)
 }
 
 // "The checker's state is lent and advanced in place by a row." The answer is that of the state
 // afterwards: a row that is taken is told from every refusal.
-pub fn row_in_place(s: &mut Lent, parsed: Parsed) -> Report
+pub fn row_in_place(s: &mut Lent, parsed: Result<Row, u32>) -> Report
     ensures { (s.new ≡ lent_step s.old parsed) × (result ≡ lent_answer (lent_step s.old parsed)) }
 {
     let next = lent_step(*s, parsed);

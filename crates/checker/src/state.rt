@@ -4,15 +4,17 @@ ghost use Rattle.field.specs.Moduli.{modulus_of};
 ghost use Rattle.memory.specs.Step.{refuse_next, with_context, take_row};
 
 use field::moduli::Modulus;
+use memory::faults::number;
 use memory::{Row, State};
 
 // A refusal on the line of the next row.
 pub(crate) fn refuse(s: State, fault: u32) -> State
     ensures { result ≡ with_context s (refuse_next s.context fault) }
 {
-    let mut o = s;
-    o.context = answers::refuse_next(s.context, fault);
-    o
+    State {
+        context: answers::refuse_next(s.context, fault),
+        ..s
+    }
 }
 
 // A row that is due: it passes, or its fault is the refusal.
@@ -20,15 +22,12 @@ pub(crate) fn take_row(k: Modulus, s: State, row: Row) -> State
     ensures { result ≡ take_row (modulus_of k) s row }
 {
     let judged = passing::judge(k, s.context, row);
-    if judged.fault != 0 {
-        return refuse(s, judged.fault);
-    }
-    let context = judged.next;
-    let challenge = s.challenge;
-    let products = factors::multiply(k, s.challenge, s.context, row, s.products);
+    let Ok(context) = judged else {
+        return refuse(s, number(&judged));
+    };
     State {
         context,
-        challenge,
-        products,
+        products: factors::multiply(k, s.challenge, s.context, row, s.products),
+        ..s
     }
 }

@@ -1,12 +1,11 @@
 -- A comma and the digits after it read as a number exactly where those digits are a numeral.
 -- Assumes nothing.
-use Rattle.std.proofs.Common.{◌≡◌, ℕ, zero, suc, ◌+◌, ◌-◌, ◌<◌, ◌≤◌, min, Bool, true, false, cond, not, ◌&&◌, ◌||◌, eqb, leb, List, [], ◌∷◌, length, get_or, drop, sym, refl, ap, ◌∙◌, add-zero, add-one, arith, length-drop, drop_of_length-le, get_or-drop, drop-cons, eq-eqb, ne_eqb, le-leb}
+use Rattle.std.proofs.Common.{◌≡◌, ℕ, zero, suc, ◌+◌, ◌-◌, ◌<◌, ◌≤◌, min, Bool, true, false, cond, None, Some, not, ◌&&◌, ◌||◌, eqb, leb, List, [], ◌∷◌, length, get_or, drop, sym, refl, ap, ◌∙◌, add-zero, add-one, arith, length-drop, drop_of_length-le, get_or-drop, drop-cons, eq-eqb, ne_eqb, le-leb}
 use mathlib.Core.Bool.{and-true, and-false, or-true}
 use native.Mathlib.Nat.{suc-min-suc, zero-min, min-zero}
 use borrow.Author.Tests.{lt-leb}
-use Rattle.memory.specs.Bytes.{comma, digit, digits, decimal_from, numeral}
-use Rattle.decimal.specs.declared.Run.{Run}
-use Rattle.decimal.specs.declared.Number.TheVariants.{Read, Unread}
+use Rattle.memory.specs.Bytes.{comma, digit, digits, numeral}
+use Rattle.decimal.specs.declared.Number.{Number}
 use Rattle.decimal.specs.Numbers.{run, most, digits_of, number_of, number_from}
 
 -- a run holds digits alone
@@ -68,11 +67,11 @@ unfolding numeral most
 numeral_run bs = simp (le-leb _ _ (length_run 10 bs), digits_run 10 bs, and-true)
 
 -- where no comma stands, no number is read
-pub number_past : (text : List ℕ) (at : ℕ) → length text ≤ at → number_from at (drop at text) ≡ Unread
+pub number_past : (text : List ℕ) (at : ℕ) → length text ≤ at → number_from at (drop at text) ≡ None
 unfolding number_from
 number_past text at past = rw (drop_of_length-le text past)
 
-pub number_uncomma : (text : List ℕ) (at : ℕ) → at < length text → (get_or text at 0 ≡ 44 → ⊥) → number_from at (drop at text) ≡ Unread
+pub number_uncomma : (text : List ℕ) (at : ℕ) → at < length text → (get_or text at 0 ≡ 44 → ⊥) → number_from at (drop at text) ≡ None
 unfolding number_from comma
 number_uncomma text at here other = rw (drop-cons text at 0 here, ne_eqb _ 44 other)
 
@@ -99,14 +98,10 @@ abbrev pub run_at : List ℕ → ℕ → List ℕ
 run_at text from = run most (drop from text)
 
 -- The digits found from a position on: whether they are a number is seen from where they end and from their first byte
-module _ (text : List ℕ) (from : ℕ) (found : Run) (is : found ≡ digits_of 0 from (run_at text from)) where
+module _ (text : List ℕ) (from : ℕ) (found : Number) (is : found ≡ digits_of 0 from (run_at text from)) where
   ends : found.next ≡ from + length (run_at text from)
   unfolding digits_of
   ends = ap (λ r. r.next) is
-
-  stands : found.value ≡ decimal_from 0 (run_at text from)
-  unfolding digits_of
-  stands = ap (λ r. r.value) is
 
   begins : 0 < length (run_at text from) → get_or (run_at text from) 0 0 ≡ get_or text from 0
   begins some = run_first most (drop from text) some ∙ get_or-drop from text 0 0 ∙ ap (λ (k : ℕ). get_or text k 0) (add-zero from)
@@ -115,12 +110,12 @@ module _ (text : List ℕ) (from : ℕ) (found : Run) (is : found ≡ digits_of 
   pub digits_end : from ≤ length text → found.next ≤ length text
   digits_end inside = omega (arith, ends, run_within most (drop from text), length-drop from text)
 
-  pub found_none : found.next ≡ from → Unread ≡ number_of from (run_at text from)
+  pub found_none : found.next ≡ from → None ≡ number_of from (run_at text from)
   unfolding number_of
   found_none none =
       rw (numeral_run (drop from text), lt-leb 1 (length (run_at text from)) (omega (arith, ends)))
 
-  pub found_zero : from + 1 < found.next → get_or text from 0 ≡ 48 → Unread ≡ number_of from (run_at text from)
+  pub found_zero : from + 1 < found.next → get_or text from 0 ≡ 48 → None ≡ number_of from (run_at text from)
   unfolding number_of
   found_zero long naught =
       rw (
@@ -131,7 +126,7 @@ module _ (text : List ℕ) (from : ℕ) (found : Run) (is : found ≡ digits_of 
       )
 
   pub found_long :
-      from + 1 < found.next → (get_or text from 0 ≡ 48 → ⊥) → Read found.value found.next ≡ number_of from (run_at text from)
+      from + 1 < found.next → (get_or text from 0 ≡ 48 → ⊥) → Some found ≡ number_of from (run_at text from)
   unfolding number_of
   found_long long other =
       rw (
@@ -139,17 +134,15 @@ module _ (text : List ℕ) (from : ℕ) (found : Run) (is : found ≡ digits_of 
         le-leb 1 (length (run_at text from)) (omega (arith, ends)),
         ne_eqb _ 48 (λ naught. other (sym (begins (omega (arith, ends))) ∙ naught)),
         or-true,
-        stands,
-        ends,
       )
+      (ap Some is)
 
-  pub found_one : (found.next ≡ from → ⊥) → found.next ≤ from + 1 → Read found.value found.next ≡ number_of from (run_at text from)
+  pub found_one : (found.next ≡ from → ⊥) → found.next ≤ from + 1 → Some found ≡ number_of from (run_at text from)
   unfolding number_of
   found_one some one =
       rw (
         numeral_run (drop from text),
         le-leb 1 (length (run_at text from)) (omega (arith, ends)),
         eq-eqb (length (run_at text from)) 1 (omega (arith, ends)),
-        stands,
-        ends,
       )
+      (ap Some is)

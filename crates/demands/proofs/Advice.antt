@@ -5,7 +5,7 @@ use Prim.Native.Nat.{ℕ, suc, ◌+◌, ◌*◌, ◌≤◌}
 use native.Mathlib.Omega.{arith}
 use mathlib.Core.Path.{◌≡◌, refl, sym, ◌∙◌, ap, ap₂}
 use mathlib.Core.Bool.{Bool, true, false, ◌&&◌, cond}
-use mathlib.Core.Option.{some}
+use Rattle.std.specs.Prelude.{Some}
 use mathlib.Core.List.{List, [], ◌∷◌, ◌++◌, map, map-append}
 use lib.Dec.{eqb}
 use lib.ListN.{length, take, drop, replicate, length-append, length-map, length-take, length-drop, length-replicate}
@@ -22,7 +22,8 @@ use Rattle.runs.specs.Plain.{start, after}
 use Rattle.runs.specs.Honest.{Input, input_of, bare, filled_row, filled_rows, impossible, input_operation, possible}
 use Rattle.memory.specs.Names.{op_coded}
 use Rattle.memory.proofs.Content.{Single}
-use Rattle.runs.specs.Filler.{memory_code, input_numbers, row_numbers, room, input_fault, operation_fault, Placed, placed, operations_fault, rows_fault, Filling, turned_away, filled_with, row_refused, fill_rows, fill_memory, fill_of}
+use Rattle.runs.specs.Filler.{input_numbers, row_numbers, room, input_fault, operation_fault, Placed, placed, operations_fault, rows_fault, Filling, turned_away, filled_with, row_refused, fill_rows, fill_memory, fill_of}
+use Rattle.memory.specs.Names.{memory_code}
 use Rattle.runs.specs.Advised.{filling_for, Advised}
 use Rattle.memory.proofs.ReadRows.{both_pass, chosen_zero, SingleRows, single_taken, single_dropped, formed_single}
 use Rattle.runs.proofs.FillerRows.{SingleInputs, single_append, memory_coded_lem, inputs_coded, input_numbers_length}
@@ -117,7 +118,7 @@ admitted : (q : ℕ) (m : Memory) (n t : ℕ) (is : List Input) (out scratch : L
 unfolding fill_of fill_memory
 admitted q m n t is out scratch e = go (rw (memory_coded_lem m) at e)
   where
-    go : (fill_memory q (some m) n t (input_numbers is) out scratch).answer ≡ 0 → (allowed m n t ≡ true) × (length is ≡ n + t)
+    go : (fill_memory q (Some m) n t (input_numbers is) out scratch).answer ≡ 0 → (allowed m n t ≡ true) × (length is ≡ n + t)
     go answer =
         let fit = kept_rows (allowed m n t) _ 4 out scratch (omega arith) answer in
         let many = kept_rows (eqb (length (input_numbers is)) (4 * (n + t))) _ 7 out scratch (omega arith) fit.1 in

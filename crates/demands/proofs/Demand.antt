@@ -21,7 +21,7 @@ use Rattle.field.specs.declared.moduli.Modulus.TheVariants.{M31, M61, Small}
 use Rattle.field.specs.Moduli.{modulus_of, file_modulus}
 use Rattle.memory.specs.declared.Memory.{Memory}
 use Rattle.memory.specs.declared.Memory.TheVariants.{Ram, Rom, Set, Stack, Queue}
-use Rattle.memory.specs.declared.Parsed.{Parsed}
+use Rattle.memory.specs.Faults.{Parsed}
 use Rattle.memory.specs.declared.Challenge.{Challenge}
 use Rattle.memory.specs.Bytes.{all_below}
 use Rattle.memory.specs.Rows.{limit, sized, allowed}

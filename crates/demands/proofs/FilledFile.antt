@@ -5,7 +5,7 @@ use native.Mathlib.Omega.{arith}
 use mathlib.Core.Path.{◌≡◌, refl, sym, ◌∙◌, ap}
 use mathlib.Core.Logic.{◌⊎◌, inl, inr}
 use mathlib.Core.Bool.{Bool, true, false, ◌&&◌, cond}
-use mathlib.Core.Option.{Option, none, some}
+use Rattle.std.specs.Prelude.{Option, None, Some}
 use mathlib.Core.List.{List, [], ◌∷◌, ◌++◌, map}
 use lib.Dec.{eqb, leb, ltb}
 use lib.ListN.{length, get_or, take, drop, length-append, take-append-drop, length-drop}
@@ -40,8 +40,8 @@ GoodJob (no_job f) = (1 ≤ f) × (f ≤ 7)
 
 good_job_of : (k : Option Memory) (n t : ℕ) → GoodJob (job_of k n t)
 unfolding job_of fill_allowed
-good_job_of none n t = (omega arith, omega arith)
-good_job_of (some m) n t =
+good_job_of None n t = (omega arith, omega arith)
+good_job_of (Some m) n t =
     decided GoodJob (fill_allowed m n t) (λ e. (both_pass (allowed m n t) (leb n fill_limit && leb t fill_limit) e).0) (omega arith, omega arith)
 
 good_job : (q : ℕ) (line : Line) → GoodJob (parse_job q line)

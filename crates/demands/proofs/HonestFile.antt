@@ -5,7 +5,7 @@ use Prim.Native.Nat.{ℕ, ◌+◌, ◌*◌, ◌≤◌, ◌<◌}
 use native.Mathlib.Omega.{arith}
 use mathlib.Core.Path.{◌≡◌, refl, sym, ◌∙◌, ap, ap₂}
 use mathlib.Core.Bool.{true}
-use mathlib.Core.Option.{some}
+use Rattle.std.specs.Prelude.{Some}
 use mathlib.Core.List.{List, [], ◌∷◌, ◌++◌, map, append_assoc}
 use lib.ListN.{length, length-append}
 use borrow.Author.Tests.{lt-ltb}
@@ -16,7 +16,7 @@ use Rattle.field.specs.Moduli.{modulus_of, file_modulus}
 use Rattle.memory.specs.declared.Memory.{Memory}
 use Rattle.memory.specs.declared.Memory.TheVariants.{Ram, Rom, Set, Stack, Queue}
 use Rattle.memory.specs.declared.Row.{Row}
-use Rattle.memory.specs.declared.Parsed.TheVariants.{Sound}
+use Rattle.std.specs.Prelude.{Ok}
 use Rattle.memory.specs.declared.Challenge.{Challenge}
 use Rattle.memory.specs.declared.Report.{Report}
 use Rattle.memory.specs.Text.{bytes}
@@ -59,7 +59,7 @@ memory_length Set = omega arith
 memory_length Stack = omega arith
 memory_length Queue = omega arith
 
-memory_back : (m : Memory) → memory_named (memory_name m) ≡ some m
+memory_back : (m : Memory) → memory_named (memory_name m) ≡ Some m
 unfolding memory_named memory_name same bytes
 memory_back Ram = refl
 memory_back Rom = refl
@@ -149,7 +149,7 @@ file_of_rows q m n t ch rows h fine below pass =
     ∙ rw (whole_names value_names, value_line_back q m n t ch h fine below, pass, whole_names row_names)
 
 -- Rows of no fault whose lists balance are accepted.
-rows_of_sound : (rows : List Row) → rows_of (map Sound rows) ≡ rows
+rows_of_sound : (rows : List Row) → rows_of (map Ok rows) ≡ rows
 unfolding rows_of parsed_row
 rows_of_sound [] = refl
 rows_of_sound (row ∷ rows) = ap {B = List Row} (λ l. row ∷ l) (rows_of_sound rows)
@@ -161,14 +161,14 @@ module _ (q : ℕ) (m : Memory) (n t : ℕ) (inits ops : List Input) (ch : Chall
   filled = filled_rows m t inits ops
 
   -- their report is that of accepted rows
-  filled_report : values_fault q m n t ch ≡ 0 → values_report q m n t ch (map Sound filled) ≡ accepted m filled
+  filled_report : values_fault q m n t ch ≡ 0 → values_report q m n t ch (map Ok filled) ≡ accepted m filled
   unfolding values_report rows_report balance_report filled refusal
   filled_report pass =
       let balances = filled_balances q m n t inits ops ch prime room size count u in
       rw (pass, parts_no_fault q m n t filled (filled_below q m t inits ops room count u) (filled_parts q m n t inits ops prime room size count u), rows_of_sound filled, balances.0, balances.1)
 
   -- and their lines read as them
-  filled_read_lem : q ≤ ten_digits → parse_rows q (lines_of (rows_text filled)) ≡ map Sound filled
+  filled_read_lem : q ≤ ten_digits → parse_rows q (lines_of (rows_text filled)) ≡ map Ok filled
   unfolding parse_rows filled
   filled_read_lem h = rows_round_trip q filled h (filled_printable_rows q m t inits ops room count u)
 
@@ -210,16 +210,16 @@ module _ (q : ℕ) (prime : Prime q) (wide : 2 * limit ≤ q) (m : Memory) (n t 
   parts = filled_parts q m n t inits ops prime small.1 f.size f.count unrefused
 
   -- their report
-  rows_accepted : values_report q m n t ch (map Sound rows) ≡ acceptance m n t rows
+  rows_accepted : values_report q m n t ch (map Ok rows) ≡ acceptance m n t rows
   unfolding rows filled
   rows_accepted =
       filled_report q m n t inits ops ch prime small.1 f.size f.count unrefused pass ∙ accepted_by_formula q m n t rows f.fit parts
 
-  run_accepted : report_of (end_of (steps_of q (fresh_of q m n t ch) (map Sound rows))) ≡ acceptance m n t rows
-  run_accepted = fold_is_file q m n t ch (map Sound rows) prime.two ∙ rows_accepted
+  run_accepted : report_of (end_of (steps_of q (fresh_of q m n t ch) (map Ok rows))) ≡ acceptance m n t rows
+  run_accepted = fold_is_file q m n t ch (map Ok rows) prime.two ∙ rows_accepted
 
   -- and, where a line can hold each element, what their lines read as
-  lines_read : q ≤ ten_digits → parse_rows q (lines_of (rows_text rows)) ≡ map Sound rows
+  lines_read : q ≤ ten_digits → parse_rows q (lines_of (rows_text rows)) ≡ map Ok rows
   unfolding rows filled
   lines_read digits = filled_read_lem q m n t inits ops ch prime small.1 f.size f.count unrefused digits
 

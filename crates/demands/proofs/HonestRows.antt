@@ -18,8 +18,8 @@ use Rattle.memory.specs.declared.Op.TheVariants.{Access, Look, Member, Push, Pop
 use Rattle.memory.specs.declared.Phase.{Phase}
 use Rattle.memory.specs.declared.Phase.TheVariants.{Starting, Operating, Ending, Ranging}
 use Rattle.memory.specs.declared.Row.{Row}
-use Rattle.memory.specs.declared.Parsed.{Parsed}
-use Rattle.memory.specs.declared.Parsed.TheVariants.{Sound}
+use Rattle.memory.specs.Faults.{Parsed}
+use Rattle.std.specs.Prelude.{Ok}
 use Rattle.memory.specs.Content.{Content, no_content, number_of}
 use Rattle.memory.specs.Bytes.{all_below}
 use Rattle.memory.specs.Names.{op_code, is_op}
@@ -471,7 +471,7 @@ module _ (q : ℕ) (m : Memory) (n t : ℕ) (inits ops : List Row) (prime : Prim
       filled_parts q m n t (map input_of inits) (map input_of ops) prime room (length-map inits input_of ∙ size) (length-map ops input_of ∙ count) unrefused
 
   -- they meet no fault
-  honest_complete : first_fault q m n t [] (map Sound (filled_rows m t (map input_of inits) (map input_of ops))) ≡ refusal 0 0
+  honest_complete : first_fault q m n t [] (map Ok (filled_rows m t (map input_of inits) (map input_of ops))) ≡ refusal 0 0
   honest_complete =
       parts_no_fault q m n t (filled_rows m t (map input_of inits) (map input_of ops))
       (filled_below q m t (map input_of inits) (map input_of ops) room (length-map ops input_of ∙ count) unrefused) honest_parts

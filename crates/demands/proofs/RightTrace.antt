@@ -15,7 +15,7 @@ use Rattle.algebra.specs.Prime.{Prime}
 use Rattle.memory.specs.declared.Memory.{Memory}
 use Rattle.memory.specs.declared.Memory.TheVariants.{Ram, Rom, Set, Stack, Queue}
 use Rattle.memory.specs.declared.Row.{Row}
-use Rattle.memory.specs.declared.Parsed.{Parsed}
+use Rattle.memory.specs.Faults.{Parsed}
 use Rattle.memory.specs.Bytes.{all_below}
 use Rattle.memory.specs.Content.{Content}
 use Rattle.memory.specs.Rows.{limit, sized, allowed, raised, lowered, operation_rows, depth_product, sunk}

@@ -11,8 +11,8 @@ use borrow.Author.Tests.{eq-eqb, ne_eqb, leb-true, ltb-true, lt-ltb, le-leb}
 use Rattle.memory.specs.declared.Op.{Op}
 use Rattle.memory.specs.declared.Op.TheVariants.{Init, Access, Look, Member, Push, Pop, Enqueue, Dequeue, End, Range, Other}
 use Rattle.memory.specs.declared.Row.{Row}
-use Rattle.memory.specs.declared.Parsed.{Parsed}
-use Rattle.memory.specs.declared.Parsed.TheVariants.{Sound}
+use Rattle.memory.specs.Faults.{Parsed}
+use Rattle.std.specs.Prelude.{Ok}
 use Rattle.memory.specs.Content.{number_of}
 use Rattle.memory.specs.Text.{bytes}
 use Rattle.memory.specs.Bytes.{Line, longest, fitting, comma, feed, same, onto, fields, digit, digits, numerals, numbers, all_below, named, readable, fields_of, before, lines_of}
@@ -223,13 +223,13 @@ fields_back q name ns h clear below short =
     )
 
 -- a row's line reads as the row
-pub row_round_trip : (q : ℕ) (row : Row) → q ≤ ten_digits → Printable q row → parse_row q (line_of row) ≡ Sound row
+pub row_round_trip : (q : ℕ) (row : Row) → q ≤ ten_digits → Printable q row → parse_row q (line_of row) ≡ Ok row
 unfolding parse_row row_read row_with line_of line_text columns_of
 row_round_trip q row h p =
     let digits : all_below ten_digits (columns_of row) ≡ true = all_below_more q ten_digits (columns_of row) h p.small in
     let read = fields_back q (op_name row.op) (columns_of row) h (name_above row.op) p.small (omega (arith, line_length row digits)) in
     ap row_read read
-    ∙ (λ j. Sound (record {
+    ∙ (λ j. Ok (record {
       op = name_back row.op p.named j;
       guard = row.guard;
       addr = row.addr;
@@ -244,13 +244,13 @@ abbrev pub AllPrintable : ℕ → List Row → Type 0
 AllPrintable q [] = Unit {0}
 AllPrintable q (row ∷ rows) = Printable q row × AllPrintable q rows
 
-lines_back : (q : ℕ) (rows : List Row) → q ≤ ten_digits → AllPrintable q rows → map (parse_row q) (map line_of rows) ≡ map Sound rows
+lines_back : (q : ℕ) (rows : List Row) → q ≤ ten_digits → AllPrintable q rows → map (parse_row q) (map line_of rows) ≡ map Ok rows
 lines_back q [] h p = refl
 lines_back q (row ∷ rows) h p =
     ap₂ (λ (x : Parsed) (xs : List Parsed). x ∷ xs) (row_round_trip q row h p.0) (lines_back q rows h p.1)
 
 -- printed rows read back
-pub rows_round_trip : (q : ℕ) (rows : List Row) → q ≤ ten_digits → AllPrintable q rows → map (parse_row q) (lines_of (rows_text rows)) ≡ map Sound rows
+pub rows_round_trip : (q : ℕ) (rows : List Row) → q ≤ ten_digits → AllPrintable q rows → map (parse_row q) (lines_of (rows_text rows)) ≡ map Ok rows
 unfolding lines_of
 rows_round_trip q rows h p =
     ap (map (parse_row q))

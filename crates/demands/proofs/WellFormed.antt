@@ -9,7 +9,7 @@ use native.Mathlib.Omega.{arith}
 use lib.ListN.{length, take, drop, length-append}
 use Rattle.memory.specs.declared.Memory.{Memory}
 use Rattle.memory.specs.declared.Row.{Row}
-use Rattle.memory.specs.declared.Parsed.{Parsed}
+use Rattle.memory.specs.Faults.{Parsed}
 use Rattle.memory.specs.Rows.{raised, lowered, ends_due, ranges_due, sunk, due_after, init_rows, operation_rows}
 use Rattle.memory.specs.Equations.{end_rows, range_rows}
 use Rattle.memory.specs.File.{rows_of, first_fault}

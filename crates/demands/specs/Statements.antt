@@ -8,8 +8,8 @@ use Rattle.field.specs.declared.moduli.Modulus.TheVariants.{M31, M61, Small}
 use Rattle.field.specs.Moduli.{modulus_of, file_modulus}
 use Rattle.memory.specs.declared.Memory.{Memory}
 use Rattle.memory.specs.declared.Row.{Row}
-use Rattle.memory.specs.declared.Parsed.{Parsed}
-use Rattle.memory.specs.declared.Parsed.TheVariants.{Sound}
+use Rattle.memory.specs.Faults.{Parsed}
+use Rattle.std.specs.Prelude.{Ok}
 use Rattle.memory.specs.declared.Challenge.{Challenge}
 use Rattle.memory.specs.declared.Report.{Report}
 use Rattle.memory.specs.Bytes.{Line, most_digits, lines_of}
@@ -79,7 +79,7 @@ DemandThree =
 pub record HonestRun (q : ℕ) (m : Memory) (n t : ℕ) (rows : List Row) : Type 0 where
   pub fills : (rows_fault q m (map (λ row. row.value) (init_rows n rows)) 1 (init_inputs n rows) (operation_inputs n t rows)).number ≡ 0
   pub complete :
-      first_fault q m n t [] (map Sound (refilled_rows m n t rows)) ≡ refusal 0 0
+      first_fault q m n t [] (map Ok (refilled_rows m n t rows)) ≡ refusal 0 0
   pub trace : trace_of m n t (refilled_rows m n t rows) ≡ trace_of m n t rows
   -- their advice is the filler's
   pub advised : allowed m n t ≡ true → Advised q m n t (refilled_rows m n t rows)
@@ -122,7 +122,7 @@ HonestRunAccepted =
     → Fillable (modulus_of k) m n t inits ops
     → elements (modulus_of k) ch ≡ true
     → let rows = filled_rows m t inits ops in
-    report_of (end_of (steps_of (modulus_of k) (fresh_of (modulus_of k) m n t ch) (map Sound rows))) ≡ acceptance m n t rows
+    report_of (end_of (steps_of (modulus_of k) (fresh_of (modulus_of k) m n t ch) (map Ok rows))) ≡ acceptance m n t rows
 
 -- The moduli of a file whose elements a line can hold: 2 is "a number … over 10 digits". p is one,
 -- and 2⁶¹ − 1 is none

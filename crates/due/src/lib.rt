@@ -1,15 +1,16 @@
 // Which rows are due: "decided by the memory and by how many have passed".
 #![tactic(auto)]
 
-ghost use Rattle.std.specs.Prelude.{◌≡◌, ◌-◌};
+ghost use Rattle.std.specs.Prelude.{◌≡◌};
 ghost use Rattle.memory.specs.Rows.{ends_due, ranges_due, ops_due, op_in};
 ghost use Rattle.memory.specs.Step.{due, phase};
 ghost use Rattle.due.specs.Due.{ops_of};
 
 use memory::{Context, Memory, Op, Phase};
-use rules::ops;
 
-// The ops that may come next.
+// The ops that may come next: "a match on memory code and row position yields the allowed op
+// codes".
+// At most two, by value: a slice would be a loop for each row.
 #[derive(Clone, Copy)]
 pub(crate) enum Allowed {
     Nothing,
@@ -17,59 +18,46 @@ pub(crate) enum Allowed {
     Either(Op, Op),
 }
 
-// up − down, and 0 where that is below 0.
-fn depth(up: u32, down: u32) -> u32
-    ensures { result ≡ up - down }
-{
-    if down <= up { up - down } else { 0 }
-}
-
 // "End rows: n for ram, rom, set; the final depth D for stack and queue"
-pub fn ends(memory: Memory, size: u32, pushed: u32, popped: u32) -> u32
-    ensures { result ≡ ends_due memory size pushed popped }
+#[tactic(auto, unfolding(memory::specs::Rows::ends_due))]
+pub fn ends(c: Context) -> u32
+    ensures { result ≡ ends_due c.memory c.size c.pushed c.popped }
 {
-    match memory {
-        Memory::Ram => size,
-        Memory::Rom => size,
-        Memory::Set => size,
-        Memory::Stack => depth(pushed, popped),
-        Memory::Queue => depth(pushed, popped),
+    match c.memory {
+        Memory::Ram | Memory::Rom | Memory::Set => c.size,
+        Memory::Stack | Memory::Queue => c.pushed.saturating_sub(c.popped),
     }
 }
 
 // "then for ram and stack T `range` rows"
-fn ranges(memory: Memory, count: u32) -> u32
-    ensures { result ≡ ranges_due memory count }
+#[tactic(auto, unfolding(memory::specs::Rows::ranges_due))]
+fn ranges(c: Context) -> u32
+    ensures { result ≡ ranges_due c.memory c.count }
 {
-    match memory {
-        Memory::Ram => count,
-        Memory::Rom => 0,
-        Memory::Set => 0,
-        Memory::Stack => count,
-        Memory::Queue => 0,
+    match c.memory {
+        Memory::Ram | Memory::Stack => c.count,
+        Memory::Rom | Memory::Set | Memory::Queue => 0,
     }
 }
 
 // The rows due in all.
+#[tactic(auto, unfolding(memory::specs::Step::due))]
 pub fn total(c: Context) -> u64
     ensures { result ≡ due c }
 {
-    let memory = c.memory;
-    let ends = ends(memory, c.size, c.pushed, c.popped);
-    let ranges = ranges(memory, c.count);
-    c.size as u64 + c.count as u64 + ends as u64 + ranges as u64
+    c.size as u64 + c.count as u64 + ends(c) as u64 + ranges(c) as u64
 }
 
 // The phase of the next row.
+#[tactic(auto, unfolding(memory::specs::Step::phase, memory::specs::Rows::phase_at))]
 fn phase(c: Context) -> Phase
     ensures { result ≡ phase c }
 {
-    let memory = c.memory;
     let passed = c.passed as u64;
     let starting = c.size as u64;
     let operating = starting + c.count as u64;
-    let ending = operating + ends(memory, c.size, c.pushed, c.popped) as u64;
-    let ranging = ending + ranges(memory, c.count) as u64;
+    let ending = operating + ends(c) as u64;
+    let ranging = ending + ranges(c) as u64;
     if passed < starting {
         Phase::Starting
     } else if passed < operating {
@@ -84,6 +72,7 @@ fn phase(c: Context) -> Phase
 }
 
 // The ops due in each phase of each memory.
+#[tactic(auto, unfolding(memory::specs::Rows::ops_due, crate::specs::Due::ops_of))]
 fn ops(memory: Memory, phase: Phase) -> Allowed
     ensures { ops_of result ≡ ops_due memory phase }
 {
@@ -103,13 +92,14 @@ fn ops(memory: Memory, phase: Phase) -> Allowed
 }
 
 // Whether an op is among those due.
+#[tactic(auto, unfolding(memory::specs::Rows::op_in, crate::specs::Due::ops_of), using(memory::proofs::SameOp::same_op))]
 fn allows(due: Allowed, op: Op) -> bool
     ensures { result ≡ op_in op (ops_of due) }
 {
     match due {
         Allowed::Nothing => false,
-        Allowed::One(one) => ops::is(op, one),
-        Allowed::Either(one, other) => ops::is(op, one) | ops::is(op, other),
+        Allowed::One(one) => op == one,
+        Allowed::Either(one, other) => (op == one) | (op == other),
     }
 }
 
@@ -117,14 +107,12 @@ fn allows(due: Allowed, op: Op) -> bool
 pub fn takes(memory: Memory, phase: Phase, op: Op) -> bool
     ensures { result ≡ op_in op (ops_due memory phase) }
 {
-    let due = ops(memory, phase);
-    allows(due, op)
+    allows(ops(memory, phase), op)
 }
 
 // Whether an op is due next.
 pub fn admits(c: Context, op: Op) -> bool
     ensures { result ≡ op_in op (ops_due c.memory (phase c)) }
 {
-    let memory = c.memory;
-    takes(memory, phase(c), op)
+    takes(c.memory, phase(c), op)
 }

@@ -1,5 +1,7 @@
 // The products and hashes after a row: section "The equations" of document 01, one function for each op. Those of rows that write no record of the memory are in module reads.
-#![tactic(auto)]
+// Modulus, challenge, context, row and products are handed on one by one, as the definition takes
+// them: of a struct of these every contract would name each field.
+#![tactic(auto, unfolding(memory::specs::Step::ram_clock, field::specs::Field::add_of, algebra::specs::Modulo::plus, memory::specs::Equations::new_of, memory::specs::Step::multiply, memory::specs::Step::multiplied, memory::specs::Step::written_by, memory::specs::Step::read_by, memory::specs::Step::supplied_by, memory::specs::Step::looked_by, memory::specs::Step::lookups_by, memory::specs::Step::enqueued_by, memory::specs::Step::dequeued_by, algebra::specs::Hash::hash_from, memory::specs::Names::is_op, memory::specs::Names::op_code, memory::specs::Equations::set_init, memory::specs::Equations::pop_lookup, field::specs::Field::sub_of, memory::specs::Equations::access_read, memory::specs::Equations::range_read, memory::specs::Equations::range_write, memory::specs::Equations::look_read, memory::specs::Equations::look_write, memory::specs::Equations::member_read, memory::specs::Equations::member_write, memory::specs::Equations::push_write, field::specs::Field::horner_of, memory::specs::Equations::pop_read, crate::specs::Left::left_by,), using(crate::proofs::Dequeued::nothing_dequeued, records::proofs::Reduced::minus_reduced, records::proofs::Reduced::factor_last_reduced, crate::proofs::Dequeued::dequeue_left, records::proofs::Reduced::factor_first_reduced, crate::proofs::Dequeued::end_left, records::proofs::Reduced::pair_first_reduced,),)]
 
 use field::moduli::Modulus;
 use memory::{Challenge, Context, Memory, Op, Products, Row};
@@ -35,23 +37,16 @@ fn init(k: Modulus, ch: Challenge, c: Context, row: Row, ps: Products) -> Produc
     requires { row.op ≡ Op.Init }
     ensures { result ≡ multiply (modulus_of k) ch c row ps }
 {
-    let memory = c.memory;
-    let mut o = ps;
-    match memory {
-        Memory::Ram => {
-            o.written = by_triple(k, ch, ps.written, c.passed as u64, row.value, 0);
-            o
-        }
-        Memory::Rom => {
-            o.written = by_triple(k, ch, ps.written, c.passed as u64, row.value, 0);
-            o
-        }
-        Memory::Set => {
-            o.written = by_pair(k, ch, ps.written, row.value, 0);
-            o
-        }
-        Memory::Stack => o,
-        Memory::Queue => o,
+    match c.memory {
+        Memory::Ram | Memory::Rom => Products {
+            written: by_triple(k, ch, ps.written, c.passed as u64, row.value, 0),
+            ..ps
+        },
+        Memory::Set => Products {
+            written: by_pair(k, ch, ps.written, row.value, 0),
+            ..ps
+        },
+        Memory::Stack | Memory::Queue => ps,
     }
 }
 
@@ -62,12 +57,13 @@ fn access(k: Modulus, ch: Challenge, c: Context, row: Row, ps: Products) -> Prod
 {
     let clock = clock(k, c);
     let age = ages::age(k, clock, row.time);
-    let mut o = ps;
-    o.written = by_triple(k, ch, ps.written, row.addr, chosen(row), clock);
-    o.read = by_triple(k, ch, ps.read, row.addr, row.old, row.time);
-    o.supplied = by_pair(k, ch, ps.supplied, age, k.add(row.version, 1));
-    o.looked = by_pair(k, ch, ps.looked, age, row.version);
-    o
+    Products {
+        written: by_triple(k, ch, ps.written, row.addr, chosen(row), clock),
+        read: by_triple(k, ch, ps.read, row.addr, row.old, row.time),
+        supplied: by_pair(k, ch, ps.supplied, age, k.add(row.version, 1)),
+        looked: by_pair(k, ch, ps.looked, age, row.version),
+        ..ps
+    }
 }
 
 // "Look reads (addr, old, version) and writes (addr, old, version + 1)."
@@ -75,10 +71,11 @@ fn look(k: Modulus, ch: Challenge, c: Context, row: Row, ps: Products) -> Produc
     requires { row.op ≡ Op.Look }
     ensures { result ≡ multiply (modulus_of k) ch c row ps }
 {
-    let mut o = ps;
-    o.written = by_triple(k, ch, ps.written, row.addr, row.old, k.add(row.version, 1));
-    o.read = by_triple(k, ch, ps.read, row.addr, row.old, row.version);
-    o
+    Products {
+        written: by_triple(k, ch, ps.written, row.addr, row.old, k.add(row.version, 1)),
+        read: by_triple(k, ch, ps.read, row.addr, row.old, row.version),
+        ..ps
+    }
 }
 
 // A set's lookup: "The same with pairs (value, version)".
@@ -86,10 +83,11 @@ fn member(k: Modulus, ch: Challenge, c: Context, row: Row, ps: Products) -> Prod
     requires { row.op ≡ Op.Member }
     ensures { result ≡ multiply (modulus_of k) ch c row ps }
 {
-    let mut o = ps;
-    o.written = by_pair(k, ch, ps.written, row.value, k.add(row.version, 1));
-    o.read = by_pair(k, ch, ps.read, row.value, row.version);
-    o
+    Products {
+        written: by_pair(k, ch, ps.written, row.value, k.add(row.version, 1)),
+        read: by_pair(k, ch, ps.read, row.value, row.version),
+        ..ps
+    }
 }
 
 // "Push adds guard to depth, writes (depth, value, clock) if guard is 1"
@@ -101,16 +99,17 @@ fn push(k: Modulus, ch: Challenge, c: Context, row: Row, ps: Products) -> Produc
         return ps;
     }
     let clock = k.add(c.pushed as u64, 1);
-    let mut o = ps;
-    o.written = by_triple(
-        k,
-        ch,
-        ps.written,
-        k.sub(clock, c.popped as u64),
-        row.value,
-        clock,
-    );
-    o
+    Products {
+        written: by_triple(
+            k,
+            ch,
+            ps.written,
+            k.sub(clock, c.popped as u64),
+            row.value,
+            clock,
+        ),
+        ..ps
+    }
 }
 
 // "An executed enqueue or dequeue makes its hash h·r + element."
@@ -121,17 +120,17 @@ fn enqueue(k: Modulus, ch: Challenge, c: Context, row: Row, ps: Products) -> Pro
     if row.guard != 1 {
         return ps;
     }
-    let mut o = ps;
-    o.enqueued = k.horner(ps.enqueued, ch.r, row.value);
-    o
+    Products {
+        enqueued: k.horner(ps.enqueued, ch.r, row.value),
+        ..ps
+    }
 }
 
 // The products and hashes after a row.
 pub fn multiply(k: Modulus, ch: Challenge, c: Context, row: Row, ps: Products) -> Products
     ensures { result ≡ multiply (modulus_of k) ch c row ps }
 {
-    let op = row.op;
-    match op {
+    match row.op {
         Op::Init => init(k, ch, c, row, ps),
         Op::Access => access(k, ch, c, row, ps),
         Op::Look => look(k, ch, c, row, ps),

@@ -16,21 +16,19 @@ pub(crate) fn pop(k: Modulus, ch: Challenge, c: Context, row: Row, ps: Products)
     ensures { result ≡ multiply (modulus_of k) ch c row ps }
 {
     let age = ages::age(k, k.add(c.pushed as u64, 1), row.time);
-    let mut o = ps;
-    o.supplied = by_pair(k, ch, ps.supplied, age, k.add(row.version, 1));
-    o.looked = by_pair(k, ch, ps.looked, age, row.version);
+    let skipped = Products {
+        supplied: by_pair(k, ch, ps.supplied, age, k.add(row.version, 1)),
+        looked: by_pair(k, ch, ps.looked, age, row.version),
+        ..ps
+    };
     if row.guard != 1 {
-        return o;
+        return skipped;
     }
-    o.read = by_triple(
-        k,
-        ch,
-        ps.read,
-        k.sub(c.pushed as u64, c.popped as u64),
-        row.old,
-        row.time,
-    );
-    o
+    let depth = k.sub(c.pushed as u64, c.popped as u64);
+    Products {
+        read: by_triple(k, ch, ps.read, depth, row.old, row.time),
+        ..skipped
+    }
 }
 
 // The hash of what left a queue; no other memory has one. "An executed enqueue or dequeue makes its hash h·r + element."
@@ -38,10 +36,7 @@ fn left(k: Modulus, memory: Memory, executed: bool, hash: u64, r: u64, element: 
     ensures { result ≡ hash_from (modulus_of k) r hash (left_by memory executed element) }
 {
     match memory {
-        Memory::Ram => hash,
-        Memory::Rom => hash,
-        Memory::Set => hash,
-        Memory::Stack => hash,
+        Memory::Ram | Memory::Rom | Memory::Set | Memory::Stack => hash,
         Memory::Queue => {
             if executed {
                 k.horner(hash, r, element)
@@ -57,18 +52,17 @@ pub(crate) fn dequeue(k: Modulus, ch: Challenge, c: Context, row: Row, ps: Produ
     requires { row.op ≡ Op.Dequeue }
     ensures { result ≡ multiply (modulus_of k) ch c row ps }
 {
-    let memory = c.memory;
-    let mut o = ps;
-    o.dequeued = left(k, memory, row.guard == 1, ps.dequeued, ch.r, row.old);
-    o
+    Products {
+        dequeued: left(k, c.memory, row.guard == 1, ps.dequeued, ch.r, row.old),
+        ..ps
+    }
 }
 
 // "End reads (address, old, time)" or "(address, value, version)", a set's pair, "(i, old, time), i from 1 to D".
 fn end_read(k: Modulus, ch: Challenge, c: Context, row: Row, product: u64) -> u64
     ensures { result ≡ multiplied (modulus_of k) ch product (read_by (modulus_of k) c row c.memory Op.End) }
 {
-    let memory = c.memory;
-    match memory {
+    match c.memory {
         Memory::Ram => by_triple(k, ch, product, end_place(c) as u64, row.old, row.time),
         Memory::Rom => by_triple(k, ch, product, end_place(c) as u64, row.value, row.version),
         Memory::Set => by_pair(k, ch, product, row.value, row.version),
@@ -85,11 +79,11 @@ pub(crate) fn end(k: Modulus, ch: Challenge, c: Context, row: Row, ps: Products)
     requires { row.op ≡ Op.End }
     ensures { result ≡ multiply (modulus_of k) ch c row ps }
 {
-    let memory = c.memory;
-    let mut o = ps;
-    o.read = end_read(k, ch, c, row, ps.read);
-    o.dequeued = left(k, memory, true, ps.dequeued, ch.r, row.old);
-    o
+    Products {
+        read: end_read(k, ch, c, row, ps.read),
+        dequeued: left(k, c.memory, true, ps.dequeued, ch.r, row.old),
+        ..ps
+    }
 }
 
 // "A set holding 1 to T, set up at version 0": the setup of a number comes with its row.
@@ -98,8 +92,9 @@ pub(crate) fn range(k: Modulus, ch: Challenge, c: Context, row: Row, ps: Product
     ensures { result ≡ multiply (modulus_of k) ch c row ps }
 {
     let number = k.add(range_place(c) as u64, 1);
-    let mut o = ps;
-    o.supplied = by_pair(k, ch, ps.supplied, number, 0);
-    o.looked = by_pair(k, ch, ps.looked, number, row.version);
-    o
+    Products {
+        supplied: by_pair(k, ch, ps.supplied, number, 0),
+        looked: by_pair(k, ch, ps.looked, number, row.version),
+        ..ps
+    }
 }

@@ -2,7 +2,7 @@
 --     inputs_cons       the input rows from row k on begin with input row k
 --     inputs_many       how many input rows a slice holds
 -- Assumes nothing.
-use Prim.Native.Nat.{ℕ, zero, suc, ◌+◌, ◌*◌, ◌≤◌, ◌<◌}
+use Prim.Native.Nat.{ℕ, zero, suc, ◌+◌, ◌*◌, ◌/◌, ◌≤◌}
 use native.Mathlib.Omega.{arith}
 use mathlib.Core.Path.{◌≡◌, refl, sym, ap, ◌∙◌}
 use mathlib.Core.List.{List, [], ◌∷◌}
@@ -48,5 +48,5 @@ pub values_each : (inputs : List ℕ) → length (values_in inputs) ≡ length (
 unfolding values_in
 values_each inputs = length-map (inputs_in inputs) (λ i. i.value)
 
-pub inputs_many : (inputs : List ℕ) (n : ℕ) → 4 * n ≤ length inputs → length inputs < 4 * n + 4 → length (inputs_in inputs) ≡ n
-inputs_many inputs n h l = sym (values_each inputs) ∙ values_many inputs n h l
+pub inputs_many : (inputs : List ℕ) → length (inputs_in inputs) ≡ length inputs / 4
+inputs_many inputs = sym (values_each inputs) ∙ values_many inputs

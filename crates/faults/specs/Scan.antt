@@ -4,6 +4,8 @@
 -- is the level.
 -- Assumes nothing.
 use Rattle.std.specs.Prelude.{ℕ, suc, ◌+◌, ◌-◌, Bool, cond, List, [], ◌∷◌, eqb, ltb, length}
+use Rattle.std.specs.Prelude.{Result, Ok, Err}
+use Rattle.memory.specs.Faults.{fault_number}
 use Rattle.memory.specs.declared.Memory.{Memory}
 use Rattle.memory.specs.declared.Memory.TheVariants.{Ram, Rom, Set, Stack, Queue}
 use Rattle.memory.specs.declared.Phase.TheVariants.{Starting, Operating}
@@ -13,7 +15,7 @@ use Rattle.runs.specs.Honest.{Input}
 use Rattle.runs.specs.Filler.{inputs_in, input_fault, Placed, placed}
 use Rattle.index.specs.Values.{values_in}
 use Rattle.index.specs.Tree.{found}
-use Rattle.faults.specs.declared.Fault.{Fault}
+use Rattle.faults.specs.declared.Refused.{Refused}
 
 -- 11: an address that is not below the level
 abbrev pub outside : ℕ → ℕ → ℕ
@@ -87,6 +89,7 @@ first_of q m inits links ops =
     let f = inits_scanned q 1 (inputs_in inits) in
     cond (eqb f.number 0) (operations_scanned q m inits links ops) f
 
--- what the code answers, as a number and a place
-abbrev pub placed_of : Fault → Placed
-placed_of f = record { number = f.number; place = f.place }
+-- what the code answers, as a number and a place; 0 and 0 where no row is refused
+abbrev pub placed_of : {A : Type 0} → Result A Refused → Placed
+placed_of (Ok x) = placed 0 0
+placed_of (Err r) = placed (fault_number r.fault) r.place

@@ -5,71 +5,76 @@
 
 ghost use Rattle.std.specs.Prelude.{◌≡◌, ◌^◌, ◌<◌};
 ghost use Rattle.field.specs.Moduli.{modulus_of};
+ghost use Rattle.memory.specs.Faults.{fault_of};
 ghost use Rattle.runs.specs.Filler.{inputs_in};
+ghost use Rattle.runs.specs.Given.{given_input};
 ghost use Rattle.index.specs.Values.{values_in};
 ghost use Rattle.faults.specs.Inputs.{input_of};
 ghost use Rattle.faults.specs.Scan.{outside, emptied, missing, refusal, moved, leveled, fault_at, init_fault, inits_scanned, in_tree, operations_scanned, first_of, placed_of};
 
 use field::moduli::Modulus;
-use memory::{Memory, Phase, numbers};
-use rules::ops;
+use index::Tree;
+use memory::faults::Fault;
+use memory::{Memory, Op, Phase};
+use runs::Given;
 use words::Input;
 
-// The number and the place of a fault; 0 and 0 where there is none.
+// A fault, and the number of the row that has it; 0 where it is no row's.
 #[derive(Clone, Copy)]
-pub struct Fault {
-    pub number: u32,
+pub struct Refused {
+    pub fault: Fault,
     pub place: usize,
 }
 
-const PUSH: u64 = 4;
+// A fault that is no row's: "4, 7 (rows not size + count), 14, 15, place 0".
+impl From<Fault> for Refused {
+    ghost from_gives = { λ fault refused. refused ≡ record { fault = fault; place = 0 } };
 
-const ENQUEUE: u64 = 6;
+    fn from(fault: Fault) -> Refused {
+        Refused { fault, place: 0 }
+    }
+}
 
 // 11, where an address is not below the level.
-fn outside(addr: u64, level: usize) -> u32
-    ensures { result ≡ outside addr level }
+fn outside(addr: u64, level: usize) -> Result<(), Fault>
+    ensures { fault_of result ≡ outside addr level }
 {
-    if (addr as usize) < level {
-        0
-    } else {
-        numbers::OUTSIDE
+    if addr as usize >= level {
+        return Err(Fault::Outside);
     }
+    Ok(())
 }
 
 // 12: an executed pop or dequeue at depth 0.
-fn emptied(up: bool, guard: u64, level: usize) -> u32
-    ensures { result ≡ emptied up guard level }
+fn emptied(up: bool, guard: u64, level: usize) -> Result<(), Fault>
+    ensures { fault_of result ≡ emptied up guard level }
 {
-    if up {
-        return 0;
+    if !up && guard == 1 && level == 0 {
+        return Err(Fault::Empty);
     }
-    if guard != 1 {
-        return 0;
-    }
-    if 0 < level { 0 } else { numbers::EMPTY }
+    Ok(())
 }
 
 // 13, where the tree gives no place of a value.
-fn missing(inits: &[u64], links: &[u64], value: u64) -> u32
-    ensures { result ≡ missing (in_tree (values_in inits.now) links.now) value }
+fn missing(tree: Tree, value: u64) -> Result<(), Fault>
+    ensures { fault_of result ≡ missing (in_tree (values_in tree.entry.inits.now) tree.entry.links.now) value }
 {
-    if index::find(inits, links, value) < inits.len() / 4 {
-        0
-    } else {
-        numbers::NOT_MEMBER
+    match tree.find(value) {
+        Some(_) => Ok(()),
+        None => Err(Fault::NotMember),
     }
 }
 
 // 11, 12 and 13, at a level.
-fn refusal(m: Memory, level: usize, row: Input, inits: &[u64], links: &[u64]) -> u32
-    ensures { result ≡ refusal m (in_tree (values_in inits.now) links.now) level row.op row.guard row.addr row.value }
+#[tactic(auto, unfolding(crate::specs::Scan::refusal, memory::specs::Names::op_code))]
+fn refusal(m: Memory, level: usize, row: Input, tree: Tree) -> Result<(), Fault>
+    ensures { fault_of result ≡ refusal m (in_tree (values_in tree.entry.inits.now) tree.entry.links.now) level row.op row.guard row.addr row.value }
 {
     match m {
         Memory::Ram | Memory::Rom => outside(row.addr, level),
-        Memory::Set => missing(inits, links, row.value),
-        Memory::Stack => emptied(row.op == PUSH, row.guard, level),
-        Memory::Queue => emptied(row.op == ENQUEUE, row.guard, level),
+        Memory::Set => missing(tree, row.value),
+        Memory::Stack => emptied(row.op == u64::from(Op::Push), row.guard, level),
+        Memory::Queue => emptied(row.op == u64::from(Op::Enqueue), row.guard, level),
     }
 }
 
@@ -82,122 +87,102 @@ fn moved(up: bool, guard: u64, level: usize) -> usize
         return level;
     }
     if up {
-        return level + 1;
+        level + 1
+    } else {
+        level.saturating_sub(1)
     }
-    if 0 < level { level - 1 } else { 0 }
 }
 
 // The level after an operation.
+#[tactic(auto, unfolding(crate::specs::Scan::leveled, memory::specs::Names::op_code))]
 fn leveled(m: Memory, level: usize, op: u64, guard: u64) -> usize
     requires { level < 2 ^ 63 }
     ensures { result ≡ leveled m level op guard }
 {
     match m {
         Memory::Ram | Memory::Rom | Memory::Set => level,
-        Memory::Stack => moved(op == PUSH, guard, level),
-        Memory::Queue => moved(op == ENQUEUE, guard, level),
+        Memory::Stack => moved(op == u64::from(Op::Push), guard, level),
+        Memory::Queue => moved(op == u64::from(Op::Enqueue), guard, level),
+    }
+}
+
+// The input row that the words of a row stand for.
+fn given(row: Input) -> Given
+    ensures { given_input result ≡ input_of row }
+{
+    Given {
+        op: Op::from(row.op),
+        guard: row.guard,
+        addr: row.addr,
+        value: row.value,
     }
 }
 
 // The fault of an init row.
-fn init_fault(field: Modulus, row: Input) -> u32
-    ensures { result ≡ init_fault (modulus_of field) (input_of row) }
+#[tactic(auto, unfolding(crate::specs::Scan::init_fault))]
+fn init_fault(field: Modulus, row: Input) -> Result<(), Fault>
+    ensures { fault_of result ≡ init_fault (modulus_of field) (input_of row) }
 {
-    let op = ops::coded(row.op);
-    inputs::fault(
-        field,
-        Memory::Ram,
-        Phase::Starting,
-        op,
-        row.guard,
-        row.addr,
-        row.value,
-    )
+    inputs::fault(field, Memory::Ram, Phase::Starting, given(row))
 }
 
 // The fault of an operation at a level: 3, 5, 6, then 11, 12, 13.
+#[tactic(auto, using(crate::proofs::Scanned::fault_form, crate::proofs::Scanned::fault_possible))]
 fn operation_fault(
     field: Modulus,
     m: Memory,
     level: usize,
     row: Input,
-    inits: &[u64],
-    links: &[u64],
-) -> u32
-    ensures { result ≡ fault_at (modulus_of field) m (in_tree (values_in inits.now) links.now) level (input_of row) }
+    tree: Tree,
+) -> Result<(), Fault>
+    ensures { fault_of result ≡ fault_at (modulus_of field) m (in_tree (values_in tree.entry.inits.now) tree.entry.links.now) level (input_of row) }
 {
-    let op = ops::coded(row.op);
-    let fault = inputs::fault(
-        field,
-        m,
-        Phase::Operating,
-        op,
-        row.guard,
-        row.addr,
-        row.value,
-    );
-    if fault != 0 {
-        return fault;
-    }
-    refusal(m, level, row, inits, links)
+    inputs::fault(field, m, Phase::Operating, given(row))?;
+    refusal(m, level, row, tree)
 }
 
 // The first fault of the init rows.
-fn scan_inits(field: Modulus, inits: &[u64]) -> Fault
+#[tactic(auto, using(crate::proofs::Scanned::inits_refused, crate::proofs::Scanned::inits_passed, crate::proofs::Scanned::inits_done))]
+fn scan_inits(field: Modulus, inits: &[u64]) -> Result<(), Refused>
     ensures { placed_of result ≡ inits_scanned (modulus_of field) 1 (inputs_in inits.now) }
 {
-    let n = inits.len() / 4;
-    let mut k = 0;
-    while k < n {
-        let number = init_fault(field, words::read(inits, k));
-        if number != 0 {
-            return Fault {
-                number,
+    for k in 0..inits.len() / 4 {
+        if let Err(fault) = init_fault(field, words::read(inits, k)) {
+            return Err(Refused {
+                fault,
                 place: k + 1,
-            };
+            });
         }
-        k += 1;
     }
-    Fault {
-        number: 0,
-        place: 0,
-    }
+    Ok(())
 }
 
 // The first fault of the operations.
-fn scan_operations(field: Modulus, m: Memory, inits: &[u64], links: &[u64], ops: &[u64]) -> Fault
-    ensures { placed_of result ≡ operations_scanned (modulus_of field) m inits.now links.now ops.now }
+#[tactic(auto, unfolding(crate::specs::Scan::operations_scanned), using(crate::proofs::Scanned::operations_refused, crate::proofs::Scanned::operations_passed, crate::proofs::Scanned::operations_done, crate::proofs::Scanned::leveled_rise, crate::proofs::Inputs::inputs_many))]
+fn scan_operations(field: Modulus, m: Memory, tree: Tree, ops: &[u64]) -> Result<(), Refused>
+    ensures { placed_of result ≡ operations_scanned (modulus_of field) m tree.entry.inits.now tree.entry.links.now ops.now }
 {
-    let n = inits.len() / 4;
-    let t = ops.len() / 4;
+    let n = tree.inits.len() / 4;
     let mut level = n;
-    let mut k = 0;
-    while k < t {
+    for k in 0..ops.len() / 4 {
         let row = words::read(ops, k);
-        let number = operation_fault(field, m, level, row, inits, links);
-        if number != 0 {
-            return Fault {
-                number,
+        if let Err(fault) = operation_fault(field, m, level, row, tree) {
+            return Err(Refused {
+                fault,
                 place: n + k + 1,
-            };
+            });
         }
         level = leveled(m, level, row.op, row.guard);
-        k += 1;
     }
-    Fault {
-        number: 0,
-        place: 0,
-    }
+    Ok(())
 }
 
-// The first fault of all rows, of 4 words each; the links are the words in which a set's elements
-// are looked up.
-pub fn first(field: Modulus, m: Memory, inits: &[u64], links: &[u64], ops: &[u64]) -> Fault
-    ensures { placed_of result ≡ first_of (modulus_of field) m inits.now links.now ops.now }
+// The first fault of all rows, of 4 words each. The init rows of any memory are in the tree, whose
+// links are read of a set alone.
+#[tactic(auto, unfolding(crate::specs::Scan::first_of, runs::specs::Filler::placed))]
+pub fn first(field: Modulus, m: Memory, tree: Tree, ops: &[u64]) -> Result<(), Refused>
+    ensures { placed_of result ≡ first_of (modulus_of field) m tree.entry.inits.now tree.entry.links.now ops.now }
 {
-    let found = scan_inits(field, inits);
-    if found.number != 0 {
-        return found;
-    }
-    scan_operations(field, m, inits, links, ops)
+    scan_inits(field, tree.inits)?;
+    scan_operations(field, m, tree, ops)
 }

@@ -1,7 +1,7 @@
 -- The modulus of each kind.
 -- Assumes nothing.
-use Prim.Native.Nat.{ℕ, max, ◌≤◌}
-use mathlib.Core.Path.{◌≡◌, sym, ◌∙◌, ap}
+use Prim.Native.Nat.{◌≤◌}
+use mathlib.Core.Path.{◌≡◌, ap}
 use native.Mathlib.Omega.{arith}
 use Rattle.field.specs.Field.{p}
 use Rattle.field.specs.Wide.{p61}
@@ -12,14 +12,6 @@ use Rattle.field.specs.Moduli.{modulus_of}
 pub at31 : {k : Modulus} → k ≡ M31 → modulus_of k ≡ p
 unfolding modulus_of
 at31 e = ap modulus_of e
-
-pub at61 : {k : Modulus} → k ≡ M61 → modulus_of k ≡ p61
-unfolding modulus_of
-at61 e = ap modulus_of e
-
-pub at_small : {k : Modulus} {q m : ℕ} → k ≡ Small q → m ≡ max q 2 → modulus_of k ≡ m
-unfolding modulus_of
-at_small e z = ap modulus_of e ∙ sym z
 
 -- each is 2 or more
 pub modulus_two : (k : Modulus) → 2 ≤ modulus_of k

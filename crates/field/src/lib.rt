@@ -1,19 +1,26 @@
 // The field of document 01: the integers modulo p = 2³¹ − 1. Elements are u32, and every public
-// operation takes any u32, reduced or not. `wide` has the field modulo 2⁶¹ − 1, and `moduli` the
-// modulus that a check computes with.
+// operation takes any u32, reduced or not. `prime` says what a field is, `wide` has the field
+// modulo 2⁶¹ − 1, `small` arithmetic modulo a small number, and `moduli` the modulus that a check
+// computes with.
 #![tactic(auto)]
 
 ghost use Rattle.std.specs.Prelude.{◌≡◌, ◌*◌, ◌%◌, ◌^◌, ◌≤◌, ◌<◌};
 ghost use Rattle.algebra.specs.Prime.{Prime};
+ghost use Rattle.algebra.specs.Modulo.{Same};
 ghost use Rattle.field.specs.Field.{p, elements_of, challenges_of, add_of, sub_of, mul_of, triple_of, pair_of, horner_of};
 ghost use Rattle.field.specs.Fold.{fold_of};
 
 pub mod moduli;
+pub mod prime;
+mod small;
 pub mod wide;
+
+use prime::PrimeField;
 
 #[derive(Clone, Copy)]
 pub struct Field;
 
+#[tactic(auto, unfolding(crate::specs::Field::p, crate::specs::Field::add_of, crate::specs::Field::sub_of, crate::specs::Field::mul_of, crate::specs::Field::triple_of, crate::specs::Field::pair_of, crate::specs::Field::horner_of, crate::specs::Fold::fold_of, algebra::specs::Modulo::plus, algebra::specs::Modulo::times))]
 impl Field {
     // p
     pub const MODULUS: u32 = 2147483647;
@@ -33,23 +40,10 @@ impl Field {
     // A multiple of p that is at least the sum of three products of numbers of 31 bits.
     const TOP: u64 = 3 * Field::BASE * Field::WIDE;
 
-    pub fn modulus() -> u32
-        ensures value { result ≡ p }
-        ensures prime { Prime result }
-    {
-        Field::MODULUS
-    }
-
-    pub fn elements() -> u32
-        ensures value { result ≡ elements_of p }
-        ensures challenges { result ^ 4 ≡ challenges_of p }
-    {
-        Field::ELEMENTS
-    }
-
     // A smaller number that is the same as x modulo p.
     fn fold(x: u64) -> u64
         ensures value { result ≡ fold_of 31 x }
+        ensures same { Same p result x }
         ensures small { result < 5 * 2 ^ 31 }
     {
         x / Field::BASE + x % Field::BASE
@@ -57,7 +51,7 @@ impl Field {
 
     // The product of two elements, folded.
     fn product(x: u32, y: u32) -> u64
-        ensures value { result ≡ fold_of 31 (x * y) }
+        ensures same { Same p result (x * y) }
         ensures small { result < 5 * 2 ^ 31 }
     {
         Field::fold(x as u64 * y as u64)
@@ -90,48 +84,6 @@ impl Field {
         ensures { result ≡ sub_of p x y }
     {
         Field::settle(x as u64 + Field::CEILING - y)
-    }
-
-    // x modulo p, for any x.
-    pub fn reduce(x: u64) -> u32
-        ensures { result ≡ x % p }
-    {
-        Field::settle(Field::fold(x))
-    }
-
-    pub fn add(x: u32, y: u32) -> u32
-        ensures { result ≡ add_of p x y }
-    {
-        Field::settle(x as u64 + y as u64)
-    }
-
-    pub fn sub(x: u32, y: u32) -> u32
-        ensures { result ≡ sub_of p x y }
-    {
-        Field::difference(x, y as u64)
-    }
-
-    pub fn mul(x: u32, y: u32) -> u32
-        ensures { result ≡ mul_of p x y }
-    {
-        Field::reduce(x as u64 * y as u64)
-    }
-
-    // The factor of a triple.
-    pub fn triple(r: u32, a: u32, b: u32, c: u32, x: u32, y: u32, z: u32) -> u32
-        ensures { result ≡ triple_of p r a b c x y z }
-    {
-        Field::difference(
-            r,
-            Field::product(a, x) + Field::product(b, y) + Field::product(c, z),
-        )
-    }
-
-    // The factor of a pair.
-    pub fn pair(r: u32, a: u32, b: u32, x: u32, y: u32) -> u32
-        ensures { result ≡ pair_of p r a b x y }
-    {
-        Field::difference(r, Field::product(a, x) + Field::product(b, y))
     }
 
     // A product times the factor r − sum, for a product and an r of 31 bits and a sum of three
@@ -168,9 +120,74 @@ impl Field {
     {
         Field::by_less(product, r, a * x + b * y)
     }
+}
+
+#[tactic(auto, unfolding(crate::specs::Field::p, crate::specs::Field::add_of, crate::specs::Field::sub_of, crate::specs::Field::mul_of, crate::specs::Field::triple_of, crate::specs::Field::pair_of, crate::specs::Field::horner_of, crate::specs::Fold::fold_of, algebra::specs::Modulo::plus, algebra::specs::Modulo::times))]
+impl PrimeField for Field {
+    type Element = u32;
+
+    ghost prime = { p };
+
+    ghost number = { λ x. x };
+
+    fn modulus() -> u32
+        ensures value { result ≡ p }
+        ensures prime { Prime result }
+    {
+        Field::MODULUS
+    }
+
+    fn elements() -> u32
+        ensures value { result ≡ elements_of p }
+        ensures challenges { result ^ 4 ≡ challenges_of p }
+    {
+        Field::ELEMENTS
+    }
+
+    // x modulo p, for any x.
+    fn reduce(x: u64) -> u32
+        ensures { result ≡ x % p }
+    {
+        Field::settle(Field::fold(x))
+    }
+
+    fn add(x: u32, y: u32) -> u32
+        ensures { result ≡ add_of p x y }
+    {
+        Field::settle(x as u64 + y as u64)
+    }
+
+    fn sub(x: u32, y: u32) -> u32
+        ensures { result ≡ sub_of p x y }
+    {
+        Field::difference(x, y as u64)
+    }
+
+    fn mul(x: u32, y: u32) -> u32
+        ensures { result ≡ mul_of p x y }
+    {
+        Field::reduce(x as u64 * y as u64)
+    }
+
+    // The factor of a triple.
+    fn triple(r: u32, a: u32, b: u32, c: u32, x: u32, y: u32, z: u32) -> u32
+        ensures { result ≡ triple_of p r a b c x y z }
+    {
+        Field::difference(
+            r,
+            Field::product(a, x) + Field::product(b, y) + Field::product(c, z),
+        )
+    }
+
+    // The factor of a pair.
+    fn pair(r: u32, a: u32, b: u32, x: u32, y: u32) -> u32
+        ensures { result ≡ pair_of p r a b x y }
+    {
+        Field::difference(r, Field::product(a, x) + Field::product(b, y))
+    }
 
     // A step of the queue's hash h: the challenge's r, and the element x.
-    pub fn horner(h: u32, r: u32, x: u32) -> u32
+    fn horner(h: u32, r: u32, x: u32) -> u32
         ensures { result ≡ horner_of p h r x }
     {
         Field::reduce(h as u64 * r as u64 + x as u64)

@@ -1,5 +1,7 @@
 // The larger field, a twin of `Field`: the integers modulo 2⁶¹ − 1. Elements are u64, and every
-// public operation takes any u64, reduced or not.
+// public operation takes any u64, reduced or not. What both have in common is `PrimeField`; the
+// bodies differ in more than a constant: a product of two u32 fits 64 bits, and one of two u64 is
+// made of halves.
 ghost use Rattle.std.specs.Prelude.{◌≡◌, ◌+◌, ◌*◌, ◌%◌, ◌^◌, ◌≤◌, ◌<◌};
 ghost use Rattle.algebra.specs.Prime.{Prime};
 ghost use Rattle.algebra.specs.Modulo.{Same};
@@ -7,9 +9,12 @@ ghost use Rattle.field.specs.Field.{elements_of, challenges_of, add_of, sub_of, 
 ghost use Rattle.field.specs.Fold.{fold_of};
 ghost use Rattle.field.specs.Wide.{p61};
 
+use crate::prime::PrimeField;
+
 #[derive(Clone, Copy)]
 pub struct Field61;
 
+#[tactic(auto, unfolding(crate::specs::Wide::p61, crate::specs::Field::add_of, crate::specs::Field::sub_of, crate::specs::Field::mul_of, crate::specs::Field::horner_of, crate::specs::Fold::fold_of, algebra::specs::Modulo::plus, algebra::specs::Modulo::times))]
 impl Field61 {
     // 2⁶¹ − 1
     pub const MODULUS: u64 = 2305843009213693951;
@@ -28,38 +33,13 @@ impl Field61 {
     // A multiple of the modulus that is at least the sum of three folded products.
     const CEILING: u64 = 4 * Field61::MODULUS;
 
-    pub fn modulus() -> u64
-        ensures value { result ≡ p61 }
-        ensures prime { Prime result }
-    {
-        Field61::MODULUS
-    }
-
-    pub fn elements() -> u64
-        ensures value { result ≡ elements_of p61 }
-        ensures challenges { result ^ 4 ≡ challenges_of p61 }
-    {
-        Field61::ELEMENTS
-    }
-
     // A smaller number that is the same as x modulo 2⁶¹ − 1.
     fn fold(x: u64) -> u64
         ensures value { result ≡ fold_of 61 x }
+        ensures same { Same p61 result x }
         ensures small { result < 2 ^ 61 + 7 }
     {
         x / Field61::BASE + x % Field61::BASE
-    }
-
-    // x modulo 2⁶¹ − 1, for any x.
-    pub fn reduce(x: u64) -> u64
-        ensures { result ≡ x % p61 }
-    {
-        let folded = Field61::fold(x);
-        if folded < Field61::MODULUS {
-            folded
-        } else {
-            folded - Field61::MODULUS
-        }
     }
 
     // The product of two numbers given as halves, x₁ · 2³¹ + x₀ and y₁ · 2³¹ + y₀: modulo 2⁶¹ − 1,
@@ -96,27 +76,62 @@ impl Field61 {
     {
         Field61::reduce(Field61::fold(x) + Field61::CEILING - y)
     }
+}
 
-    pub fn add(x: u64, y: u64) -> u64
+#[tactic(auto, unfolding(crate::specs::Wide::p61, crate::specs::Field::add_of, crate::specs::Field::sub_of, crate::specs::Field::mul_of, crate::specs::Field::horner_of, crate::specs::Fold::fold_of, algebra::specs::Modulo::plus, algebra::specs::Modulo::times))]
+impl PrimeField for Field61 {
+    type Element = u64;
+
+    ghost prime = { p61 };
+
+    ghost number = { λ x. x };
+
+    fn modulus() -> u64
+        ensures value { result ≡ p61 }
+        ensures prime { Prime result }
+    {
+        Field61::MODULUS
+    }
+
+    fn elements() -> u64
+        ensures value { result ≡ elements_of p61 }
+        ensures challenges { result ^ 4 ≡ challenges_of p61 }
+    {
+        Field61::ELEMENTS
+    }
+
+    // x modulo 2⁶¹ − 1, for any x.
+    fn reduce(x: u64) -> u64
+        ensures { result ≡ x % p61 }
+    {
+        let folded = Field61::fold(x);
+        if folded < Field61::MODULUS {
+            folded
+        } else {
+            folded - Field61::MODULUS
+        }
+    }
+
+    fn add(x: u64, y: u64) -> u64
         ensures { result ≡ add_of p61 x y }
     {
         Field61::reduce(Field61::fold(x) + Field61::fold(y))
     }
 
-    pub fn sub(x: u64, y: u64) -> u64
+    fn sub(x: u64, y: u64) -> u64
         ensures { result ≡ sub_of p61 x y }
     {
         Field61::difference(x, Field61::fold(y))
     }
 
-    pub fn mul(x: u64, y: u64) -> u64
+    fn mul(x: u64, y: u64) -> u64
         ensures { result ≡ mul_of p61 x y }
     {
         Field61::reduce(Field61::product(x, y))
     }
 
     // The factor of a triple.
-    pub fn triple(r: u64, a: u64, b: u64, c: u64, x: u64, y: u64, z: u64) -> u64
+    fn triple(r: u64, a: u64, b: u64, c: u64, x: u64, y: u64, z: u64) -> u64
         ensures { result ≡ triple_of p61 r a b c x y z }
     {
         let first = Field61::fold(Field61::product(a, x));
@@ -126,7 +141,7 @@ impl Field61 {
     }
 
     // The factor of a pair.
-    pub fn pair(r: u64, a: u64, b: u64, x: u64, y: u64) -> u64
+    fn pair(r: u64, a: u64, b: u64, x: u64, y: u64) -> u64
         ensures { result ≡ pair_of p61 r a b x y }
     {
         let first = Field61::fold(Field61::product(a, x));
@@ -135,7 +150,7 @@ impl Field61 {
     }
 
     // A step of the queue's hash h: the challenge's r, and the element x.
-    pub fn horner(h: u64, r: u64, x: u64) -> u64
+    fn horner(h: u64, r: u64, x: u64) -> u64
         ensures { result ≡ horner_of p61 h r x }
     {
         Field61::reduce(Field61::product(h, r) + Field61::fold(x))

@@ -6,6 +6,7 @@
 
 use field::Field;
 use field::moduli::Modulus;
+use field::prime::PrimeField;
 use field::wide::Field61;
 
 const EDGES: [u64; 16] = [
@@ -39,9 +40,9 @@ fn next(x: u64) -> u64 {
     b ^ (b << 17)
 }
 
-// A digest with one number more.
-fn digest(d: u64, n: u64) -> u64 {
-    next(d ^ n)
+// A digest with more numbers.
+fn digest(d: u64, numbers: &[u64]) -> u64 {
+    numbers.iter().fold(d, |d, n| next(d ^ *n))
 }
 
 // The last 32 bits of a number.
@@ -49,45 +50,38 @@ fn low(n: u64) -> u32 {
     (n % 4294967296) as u32
 }
 
-// Every operation of the field of document 01, on the last 32 bits of each number.
-fn smaller(d: u64, x: u64, y: u64, z: u64) -> u64 {
-    let u = low(x);
-    let v = low(y);
-    let w = low(z);
-    let mut o = digest(d, Field::modulus() as u64);
-    o = digest(o, Field::elements() as u64);
-    o = digest(o, Field::reduce(x) as u64);
-    o = digest(o, Field::add(u, v) as u64);
-    o = digest(o, Field::sub(u, v) as u64);
-    o = digest(o, Field::mul(u, v) as u64);
-    o = digest(o, Field::horner(u, v, w) as u64);
-    o = digest(o, Field::triple(u, v, w, u, w, u, v) as u64);
-    digest(o, Field::pair(u, v, w, u, v) as u64)
-}
-
-// Every operation of the larger field.
-fn larger(d: u64, x: u64, y: u64, z: u64) -> u64 {
-    let mut o = digest(d, Field61::modulus());
-    o = digest(o, Field61::elements());
-    o = digest(o, Field61::reduce(x));
-    o = digest(o, Field61::add(x, y));
-    o = digest(o, Field61::sub(x, y));
-    o = digest(o, Field61::mul(x, y));
-    o = digest(o, Field61::horner(x, y, z));
-    o = digest(o, Field61::triple(x, y, z, x, z, x, y));
-    digest(o, Field61::pair(x, y, z, x, y))
+// Every operation of a field: the number reduced, and the others of the elements.
+fn of_field<F: PrimeField>(d: u64, number: u64, x: F::Element, y: F::Element, z: F::Element) -> u64
+where
+    F::Element: Into<u64>,
+{
+    let values = [
+        F::modulus().into(),
+        F::elements().into(),
+        F::reduce(number).into(),
+        F::add(x, y).into(),
+        F::sub(x, y).into(),
+        F::mul(x, y).into(),
+        F::horner(x, y, z).into(),
+        F::triple(x, y, z, x, z, x, y).into(),
+        F::pair(x, y, z, x, y).into(),
+    ];
+    digest(d, &values)
 }
 
 // Every operation of a modulus.
 fn of_modulus(k: Modulus, d: u64, x: u64, y: u64, z: u64) -> u64 {
-    let mut o = digest(d, k.modulus());
-    o = digest(o, k.reduce(x));
-    o = digest(o, k.add(x, y));
-    o = digest(o, k.sub(x, y));
-    o = digest(o, k.mul(x, y));
-    o = digest(o, k.horner(x, y, z));
-    o = digest(o, k.by_triple(z, x, y, z, x, z, x, y));
-    digest(o, k.by_pair(z, x, y, z, x, y))
+    let values = [
+        k.modulus(),
+        k.reduce(x),
+        k.add(x, y),
+        k.sub(x, y),
+        k.mul(x, y),
+        k.horner(x, y, z),
+        k.by_triple(z, x, y, z, x, z, x, y),
+        k.by_pair(z, x, y, z, x, y),
+    ];
+    digest(d, &values)
 }
 
 // A digest of every operation of each field, and one for each of three moduli.
@@ -103,8 +97,8 @@ struct Digests {
 // One triple more, and a small modulus for it.
 fn more(s: Digests, q: u8, x: u64, y: u64, z: u64) -> Digests {
     Digests {
-        smaller: smaller(s.smaller, x, y, z),
-        larger: larger(s.larger, x, y, z),
+        smaller: of_field::<Field>(s.smaller, x, low(x), low(y), low(z)),
+        larger: of_field::<Field61>(s.larger, x, x, y, z),
         first: of_modulus(Modulus::M31, s.first, x, y, z),
         second: of_modulus(Modulus::M61, s.second, x, y, z),
         small: of_modulus(Modulus::Small(q), s.small, x, y, z),
@@ -113,20 +107,16 @@ fn more(s: Digests, q: u8, x: u64, y: u64, z: u64) -> Digests {
 
 // The five digests.
 fn print(rt: &impl Print, s: Digests) {
-    number(rt, s.smaller);
-    number(rt, s.larger);
-    number(rt, s.first);
-    number(rt, s.second);
-    number(rt, s.small);
+    for n in [s.smaller, s.larger, s.first, s.second, s.small] {
+        number(rt, n);
+    }
 }
 
 // Two edges with every third.
 fn thirds(before: Digests, x: u64, y: u64) -> Digests {
     let mut s = before;
-    let mut k: usize = 0;
-    while k < 16 {
-        s = more(s, k as u8, x, y, EDGES[k]);
-        k += 1;
+    for (k, z) in EDGES.iter().enumerate() {
+        s = more(s, k as u8, x, y, *z);
     }
     s
 }
@@ -134,12 +124,9 @@ fn thirds(before: Digests, x: u64, y: u64) -> Digests {
 // An edge with all edges: the products, and the digests after every triple.
 fn edge(rt: &impl Print, before: Digests, x: u64) -> Digests {
     let mut s = before;
-    let mut j: usize = 0;
-    while j < 16 {
-        let y = EDGES[j];
+    for y in EDGES {
         number(rt, Field61::mul(x, y));
         s = thirds(s, x, y);
-        j += 1;
     }
     print(rt, s);
     s
@@ -148,10 +135,8 @@ fn edge(rt: &impl Print, before: Digests, x: u64) -> Digests {
 // All edges.
 fn edges(rt: &impl Print, before: Digests) -> Digests {
     let mut s = before;
-    let mut i: usize = 0;
-    while i < 16 {
-        s = edge(rt, s, EDGES[i]);
-        i += 1;
+    for x in EDGES {
+        s = edge(rt, s, x);
     }
     s
 }
@@ -180,10 +165,8 @@ fn draw(d: Drawn) -> Drawn {
 // A block of them.
 fn block(rt: &impl Print, before: Drawn) -> Drawn {
     let mut d = before;
-    let mut i: usize = 0;
-    while i < 1000 {
+    for _ in 0..1000 {
         d = draw(d);
-        i += 1;
     }
     print(rt, d.digests);
     d
@@ -201,9 +184,7 @@ fn main(rt: HostRuntime) {
         at: 88172645463325252,
         digests: edges(&rt, none),
     };
-    let mut i: usize = 0;
-    while i < 100 {
+    for _ in 0..100 {
         d = block(&rt, d);
-        i += 1;
     }
 }

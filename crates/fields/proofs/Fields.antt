@@ -3,7 +3,7 @@
 use Prim.Native.Nat.{ℕ, zero, suc, ◌+◌, ◌-◌, ◌≤◌, ◌<◌}
 use mathlib.Core.Path.{◌≡◌, refl, sym, ap, ◌∙◌}
 use mathlib.Core.Bool.{Bool, true, false, ◌&&◌, ◌||◌, not, cond, and-true, and-false, true≢false}
-use mathlib.Core.Option.{Option, none, some}
+use Rattle.std.specs.Prelude.{Option, None, Some}
 use mathlib.Core.List.{List, [], ◌∷◌, ◌++◌, append-nil}
 use mathlib.Core.Logic.{⊎_elim}
 use native.Mathlib.Nat.{eq-or-lt_of_le, sub-zero}
@@ -16,9 +16,8 @@ use borrow.Author.Tests.{eq-eqb, ne_eqb, le-leb, lt-leb}
 use Rattle.memory.specs.Bytes.{longest, fitting, comma, onto, fields, digit, digits, decimal_from, numeral, numerals, numbers, all_below, readable}
 use Rattle.keys.specs.declared.Name.{Name}
 use Rattle.decimal.specs.declared.Number.{Number}
-use Rattle.decimal.specs.declared.Number.TheVariants.{Read, Unread}
 use Rattle.keys.specs.Keys.{key_of, first, name_of}
-use Rattle.decimal.specs.Numbers.{run, most, number_of, number_from}
+use Rattle.decimal.specs.Numbers.{run, most, digits_of, number_of, number_from}
 use Rattle.decimal.proofs.Numbers.{run_within}
 use Rattle.keys.proofs.Names.{first_within}
 use Rattle.fields.specs.Keyed.{Taken, taken, unread, fields_taken}
@@ -89,7 +88,7 @@ run_rest (suc k) (b ∷ bs) = by (digit b) refl (run_rest k bs)
     by false other rest = ended (eqb b comma) other
 
 -- too many digits, or another byte among them
-spoilt : (some few all rest : Bool) → (all && few) ≡ false → ((some && few) && (all && rest)) ≡ false
+spoilt : (Some few all rest : Bool) → (all && few) ≡ false → ((Some && few) && (all && rest)) ≡ false
 spoilt true true true rest e = absurd (true≢false e)
 spoilt true true false rest e = refl
 spoilt true false all rest e = refl
@@ -114,43 +113,43 @@ numeral_first bs = by (first (past most bs)) (run_rest most bs)
 
 -- Reading k numbers, each after a comma, from a position on, and then the end of the text
 unfoldable pub prepend : ℕ → Option (List ℕ) → Option (List ℕ)
-prepend v none = none
-prepend v (some vs) = some (v ∷ vs)
+prepend v None = None
+prepend v (Some vs) = Some (v ∷ vs)
 
-unfoldable pub read_on : Number → (ℕ → Option (List ℕ)) → Option (List ℕ)
-read_on (Read v next) rest = prepend v (rest next)
-read_on Unread rest = none
+unfoldable pub read_on : Option Number → (ℕ → Option (List ℕ)) → Option (List ℕ)
+read_on (Some n) rest = prepend n.value (rest n.next)
+read_on None rest = None
 
 unfoldable pub read_from : ℕ → List ℕ → ℕ → Option (List ℕ)
-read_from zero text at = cond (eqb at (length text)) (some []) none
+read_from zero text at = cond (eqb at (length text)) (Some []) None
 read_from (suc k) text at = read_on (number_from at (drop at text)) (λ next. read_from k text next)
 
 -- the numbers of the fields after the first, where there are k of them and the first is empty
 unfoldable numbers_of : ℕ → List (List ℕ) → Option (List ℕ)
 numbers_of k fs =
-    cond (is_nil (get_or fs 0 []) && (eqb (length fs) (suc k) && numerals (drop 1 fs))) (some (numbers (drop 1 fs))) none
+    cond (is_nil (get_or fs 0 []) && (eqb (length fs) (suc k) && numerals (drop 1 fs))) (Some (numbers (drop 1 fs))) None
 
 -- at the end of the text there is one field, which is empty
-numbers_end : numbers_of 0 (fields []) ≡ some []
+numbers_end : numbers_of 0 (fields []) ≡ Some []
 unfolding numbers_of fields numerals numbers
 numbers_end = refl
 
-numbers_missing : (k : ℕ) → numbers_of (suc k) (fields []) ≡ none
+numbers_missing : (k : ℕ) → numbers_of (suc k) (fields []) ≡ None
 unfolding numbers_of fields numerals numbers
 numbers_missing k = rw (ne_eqb 1 (suc (suc k)) (omega arith))
 
 -- at a comma there are two or more
-numbers_surplus : (b : ℕ) (bs : List ℕ) → eqb b comma ≡ true → numbers_of 0 (fields (b ∷ bs)) ≡ none
+numbers_surplus : (b : ℕ) (bs : List ℕ) → eqb b comma ≡ true → numbers_of 0 (fields (b ∷ bs)) ≡ None
 unfolding numbers_of fields
 numbers_surplus b bs is = rw (is, fields_first bs, ne_eqb (suc (suc (length (drop 1 (fields bs))))) 1 (omega arith))
 
 -- at another byte the first is not empty
-numbers_astray : (k b : ℕ) (bs : List ℕ) → eqb b comma ≡ false → numbers_of k (fields (b ∷ bs)) ≡ none
+numbers_astray : (k b : ℕ) (bs : List ℕ) → eqb b comma ≡ false → numbers_of k (fields (b ∷ bs)) ≡ None
 unfolding numbers_of fields onto
 numbers_astray k b bs other = rw (other, fields_first bs)
 
 -- a number is put before those that are read after it
-prepend_cond : (t : Bool) (v : ℕ) (vs : List ℕ) → cond t (some (v ∷ vs)) none ≡ prepend v (cond t (some vs) none)
+prepend_cond : (t : Bool) (v : ℕ) (vs : List ℕ) → cond t (Some (v ∷ vs)) None ≡ prepend v (cond t (Some vs) None)
 unfolding prepend
 prepend_cond true v vs = refl
 prepend_cond false v vs = refl
@@ -158,9 +157,9 @@ prepend_cond false v vs = refl
 -- the first field after a comma: a run of digits, and what is left of the field
 number_step :
     (numbered : Bool) (k next : ℕ) (ds field : List ℕ) (fs : List (List ℕ))
-    → cond (eqb (suc (suc (length fs))) (suc (suc k)) && ((numbered && is_nil field) && numerals fs)) (some (decimal_from 0 (ds ++ field) ∷ numbers fs)) none
-    ≡ read_on (cond numbered (Read (decimal_from 0 ds) next) Unread)
-    (λ next. cond (is_nil field && (eqb (suc (length fs)) (suc k) && numerals fs)) (some (numbers fs)) none)
+    → cond (eqb (suc (suc (length fs))) (suc (suc k)) && ((numbered && is_nil field) && numerals fs)) (Some (decimal_from 0 (ds ++ field) ∷ numbers fs)) None
+    ≡ read_on (cond numbered (Some (record { value = decimal_from 0 ds; next = next })) None)
+    (λ next. cond (is_nil field && (eqb (suc (length fs)) (suc k) && numerals fs)) (Some (numbers fs)) None)
 unfolding read_on prepend
 number_step false k next ds field fs = rw and-false
 number_step true k next ds [] fs = rw (append-nil ds, eqb-suc-suc (suc (length fs)) (suc k)) (prepend_cond (eqb (suc (length fs)) (suc k) && numerals fs) (decimal_from 0 ds) (numbers fs))
@@ -170,7 +169,7 @@ number_step true k next ds (b ∷ field) fs = rw and-false
 numbers_comma :
     (k b from : ℕ) (bs : List ℕ) → eqb b comma ≡ true
     → numbers_of (suc k) (fields (b ∷ bs)) ≡ read_on (number_of from (run most bs)) (λ next. numbers_of k (fields (past most bs)))
-unfolding numbers_of fields numerals numbers number_of
+unfolding numbers_of fields numerals numbers number_of digits_of
 numbers_comma k b from bs is =
     rw (is, fields_run most bs, numeral_first bs, fields_first (past most bs))
     (number_step
@@ -193,7 +192,7 @@ unfolding read_from
 read_surplus text at inside =
     rw (drop-cons text at 0 inside, ne_eqb at (length text) (omega arith)) (by (eqb (get_or text at 0) comma) refl)
   where
-    by : (t : Bool) → eqb (get_or text at 0) comma ≡ t → none ≡ numbers_of 0 (fields (get_or text at 0 ∷ drop (suc at) text))
+    by : (t : Bool) → eqb (get_or text at 0) comma ≡ t → None ≡ numbers_of 0 (fields (get_or text at 0 ∷ drop (suc at) text))
     by true is = sym (numbers_surplus (get_or text at 0) (drop (suc at) text) is)
     by false other = sym (numbers_astray 0 (get_or text at 0) (drop (suc at) text) other)
 
@@ -203,7 +202,7 @@ module _ (k : ℕ) (text : List ℕ) (rest : (at : ℕ) → at ≤ length text �
       (at : ℕ) → at < length text
       → read_on (number_of (at + 1) (run most (drop (suc at) text))) (λ next. read_from k text next)
       ≡ read_on (number_of (at + 1) (run most (drop (suc at) text))) (λ next. numbers_of k (fields (past most (drop (suc at) text))))
-  unfolding number_of read_on
+  unfolding number_of digits_of read_on
   read_rest at inside = by (numeral ds)
     where
       ds : List ℕ
@@ -216,8 +215,8 @@ module _ (k : ℕ) (text : List ℕ) (rest : (at : ℕ) → at ≤ length text �
       here = rw (add-one at) (sym (drop-drop (length ds) (suc at) text))
 
       by : (t : Bool)
-          → read_on (cond t (Read (decimal_from 0 ds) next) Unread) (λ next. read_from k text next)
-          ≡ read_on (cond t (Read (decimal_from 0 ds) next) Unread) (λ next. numbers_of k (fields (past most (drop (suc at) text))))
+          → read_on (cond t (Some (record { value = decimal_from 0 ds; next = next })) None) (λ next. read_from k text next)
+          ≡ read_on (cond t (Some (record { value = decimal_from 0 ds; next = next })) None) (λ next. numbers_of k (fields (past most (drop (suc at) text))))
       by true = ap (prepend (decimal_from 0 ds)) (rest next (omega (arith, run_within most (drop (suc at) text), length-drop (suc at) text)) ∙ ap (λ (bs : List ℕ). numbers_of k (fields bs)) here)
       by false = refl
 
@@ -226,7 +225,7 @@ module _ (k : ℕ) (text : List ℕ) (rest : (at : ℕ) → at ≤ length text �
   read_number at inside = rw (drop-cons text at 0 inside) (by (eqb (get_or text at 0) comma) refl)
     where
       by : (t : Bool) → eqb (get_or text at 0) comma ≡ t
-          → read_on (cond t (number_of (at + 1) (run most (drop (suc at) text))) Unread) (λ next. read_from k text next)
+          → read_on (cond t (number_of (at + 1) (run most (drop (suc at) text))) None) (λ next. read_from k text next)
           ≡ numbers_of (suc k) (fields (get_or text at 0 ∷ drop (suc at) text))
       by true is = read_rest at inside ∙ sym (numbers_comma k (get_or text at 0) (at + 1) (drop (suc at) text) is)
       by false other = sym (numbers_astray (suc k) (get_or text at 0) (drop (suc at) text) other)
@@ -262,22 +261,22 @@ unfolding prepends
 prepends_more [] v rest = refl
 prepends_more (w ∷ vs) v rest = ap (prepend w) (prepends_more vs v rest)
 
-prepends_none : (vs : List ℕ) → prepends vs none ≡ none
+prepends_none : (vs : List ℕ) → prepends vs None ≡ None
 unfolding prepends prepend
 prepends_none [] = refl
 prepends_none (v ∷ vs) = rw (prepends_none vs)
 
-prepends_some : (vs ws : List ℕ) → prepends vs (some ws) ≡ some (vs ++ ws)
+prepends_some : (vs ws : List ℕ) → prepends vs (Some ws) ≡ Some (vs ++ ws)
 unfolding prepends prepend
 prepends_some [] ws = refl
 prepends_some (v ∷ vs) ws = rw (prepends_some vs ws)
 
 -- the numbers that are read after the name, with its key
 unfoldable taken_with : ℕ → ℕ → Option (List ℕ) → Taken
-taken_with q key none = unread
-taken_with q key (some ns) = taken key ns (all_below q ns)
+taken_with q key None = unread
+taken_with q key (Some ns) = taken key ns (all_below q ns)
 
-taken_cond : (q : ℕ) (test : Bool) (key : ℕ) (ns : List ℕ) → cond test (taken key ns (all_below q ns)) unread ≡ taken_with q key (cond test (some ns) none)
+taken_cond : (q : ℕ) (test : Bool) (key : ℕ) (ns : List ℕ) → cond test (taken key ns (all_below q ns)) unread ≡ taken_with q key (cond test (Some ns) None)
 unfolding taken_with
 taken_cond q true key ns = refl
 taken_cond q false key ns = refl
@@ -332,30 +331,30 @@ module _ {q total : ℕ} {text : List ℕ} {ended : Bool} {ns : List ℕ} {i at 
   reading_next : i < total → read_from total text (length (first text)) ≡ prepends (take i ns) (read_from (suc (total - (i + 1))) text at)
   reading_next left = reading.reads ∙ ap (λ (k : ℕ). prepends (take i ns) (read_from k text at)) (omega arith)
 
-  module _ (left : i < total) {found : Number} (is : found ≡ number_from at (drop at text)) where
-    pub reading_goes : {v next : ℕ} → found ≡ Read v next → Reading q total text ended (set ns i v) (i + 1) next (below && ltb v q)
+  module _ (left : i < total) {found : Option Number} (is : found ≡ number_from at (drop at text)) where
+    pub reading_goes : {n : Number} → found ≡ Some n → Reading q total text ended (set ns i n.value) (i + 1) n.next (below && ltb n.value q)
     unfolding read_from read_on
-    reading_goes {v} {next} goes =
+    reading_goes {n} goes =
         record {
           fits = reading.fits;
           whole = reading.whole;
-          many = length-set ns i v ∙ reading.many;
+          many = length-set ns i n.value ∙ reading.many;
           inside = omega arith;
           reads =
               reading_next left
-              ∙ ap (λ (n : Number). prepends (take i ns) (read_on n (λ m. read_from (total - (i + 1)) text m))) (sym is ∙ goes)
-              ∙ prepends_more (take i ns) v (read_from (total - (i + 1)) text next)
-              ∙ rw (add-one i, take-suc-set ns i v (omega arith));
-          small = rw (add-one i, take-suc-set ns i v (omega arith)) (ap (λ (t : Bool). t && ltb v q) reading.small ∙ sym (below_append q (take i ns) v));
+              ∙ ap (λ (m : Option Number). prepends (take i ns) (read_on m (λ m. read_from (total - (i + 1)) text m))) (sym is ∙ goes)
+              ∙ prepends_more (take i ns) n.value (read_from (total - (i + 1)) text n.next)
+              ∙ rw (add-one i, take-suc-set ns i n.value (omega arith));
+          small = rw (add-one i, take-suc-set ns i n.value (omega arith)) (ap (λ (t : Bool). t && ltb n.value q) reading.small ∙ sym (below_append q (take i ns) n.value));
         }
 
     -- or is none
-    pub reading_fails : found ≡ Unread → unread ≡ fields_taken q total (record { text = text; ended = ended })
+    pub reading_fails : found ≡ None → unread ≡ fields_taken q total (record { text = text; ended = ended })
     unfolding read_from read_on taken_with
     reading_fails fails =
-        line_is q total text ended none reading.fits reading.whole
+        line_is q total text ended None reading.fits reading.whole
         (reading_next left
-        ∙ ap (λ (n : Number). prepends (take i ns) (read_on n (λ m. read_from (total - (i + 1)) text m))) (sym is ∙ fails)
+        ∙ ap (λ (m : Option Number). prepends (take i ns) (read_on m (λ m. read_from (total - (i + 1)) text m))) (sym is ∙ fails)
         ∙ prepends_none (take i ns))
 
   -- none is left
@@ -375,13 +374,13 @@ module _ {q total : ℕ} {text : List ℕ} {ended : Bool} {ns : List ℕ} {i at 
   reading_ends over named ends =
       ap (λ (n : Name). taken n.key ns below) named
       ∙ ap (taken (name_of (first text)).key ns) (reading_small over)
-      ∙ line_is q total text ended (some ns) reading.fits reading.whole
-      (reading_last over ∙ rw (eq-eqb at (length text) ends) (prepends_some ns [] ∙ ap some (append-nil ns)))
+      ∙ line_is q total text ended (Some ns) reading.fits reading.whole
+      (reading_last over ∙ rw (eq-eqb at (length text) ends) (prepends_some ns [] ∙ ap Some (append-nil ns)))
 
   pub reading_over : total ≤ i → (at ≡ length text → ⊥) → unread ≡ fields_taken q total (record { text = text; ended = ended })
   unfolding read_from taken_with
   reading_over over more =
-      line_is q total text ended none reading.fits reading.whole
+      line_is q total text ended None reading.fits reading.whole
       (reading_last over ∙ rw (ne_eqb at (length text) more) (prepends_none ns))
 
 -- a line that does not fit is taken apart to none

@@ -3,7 +3,7 @@
 use Prim.Native.Nat.{ℕ, ◌≤◌}
 use mathlib.Core.Path.{◌≡◌, refl}
 use mathlib.Core.Bool.{true}
-use mathlib.Core.Option.{Option}
+use Rattle.std.specs.Prelude.{Option}
 use mathlib.Core.List.{List}
 use lib.ListN.{get_or}
 use Rattle.memory.specs.declared.Memory.{Memory}
@@ -11,9 +11,9 @@ use Rattle.memory.specs.Bytes.{Line, fields_of}
 use Rattle.memory.specs.Rows.{allowed}
 use Rattle.memory.specs.Names.{op_named, memory_named}
 use Rattle.runs.specs.FillFile.{fill_allowed, Job, no_job, job_fields, job_of, job_read, parse_job, faulty, input_fields, input_read, parse_input}
-use Rattle.fields.proofs.Parts.{Keyed, by_key}
+use Rattle.fields.specs.Keyed.{Keyed, by_key}
 use Rattle.keys.specs.Keys.{op_keyed, memory_keyed}
-use Rattle.keys.proofs.Bools.{and_both}
+use Rattle.memory.proofs.ReadRows.{both_pass}
 use Rattle.keys.proofs.Keys.{Bytes}
 use Rattle.lines.proofs.Parse.{on_keyed, line_keyed, op_agrees, memory_agrees, allowed_fits}
 use Rattle.fill_lines.specs.Answers.{input_with}
@@ -21,7 +21,7 @@ use Rattle.fill_lines.specs.Answers.{input_with}
 -- a size and count that the filling program takes are at most 65,536
 pub fill_fits : (m : Memory) (n t : ℕ) → fill_allowed m n t ≡ true → (n ≤ 65536) × (t ≤ 65536)
 unfolding fill_allowed
-fill_fits m n t e = allowed_fits m n t (and_both (allowed m n t) _ e).0
+fill_fits m n t e = allowed_fits m n t (both_pass (allowed m n t) _ e).0
 
 -- the answer to a value line, from the memory that is named and the numbers
 unfoldable pub job_with : Option Memory → List ℕ → Job

@@ -3,4 +3,4 @@
 use Rattle.fill_program.specs.Statements.{FillPrinted}
 
 pub fill_printed : FillPrinted
-fill_printed file old new = ((λ h. h), (λ h. h))
+fill_printed file old new = ((λ h. h), (λ e h. h))

@@ -3,72 +3,74 @@
 // failed write.
 #![tactic(auto)]
 
-ghost use Rattle.std.specs.Prelude.{ℕ, List};
-ghost use Rattle.field.specs.Moduli.{modulus_of};
-ghost use Rattle.fillfile.specs.Progress.{left_by};
-ghost use Rattle.stdio.specs.Write.{Prints};
-ghost use Rattle.fill_program.specs.Run.{Ends, Fills, Roomy};
+ghost use Rattle.field.specs.Field.{p};
+ghost use Rattle.runs.specs.FillFile.{fill_text};
+ghost use Rattle.fill_program.specs.Run.{Fills, HasTaken};
 
 use field::moduli::Modulus;
 use fillfile::Progress;
 use std::io;
-use stdio::{Read, Wrote};
-use text::Put;
+use stdio::Failure;
+use stdio::filter::{self, Filter};
 
-// The end of input: prints what the library puts into the text, and says whether all of it is
-// printed.
-fn print_end<W: io::Write>(
-    rt: &impl Eprint,
-    output: &mut W,
+// What takes the input modulo p, with the words of its rows, and prints what the library puts into
+// the text.
+#[derive(Drop)]
+struct Fill {
     progress: Progress,
-    buf: &[u8],
-    words: &mut [u64],
-) -> bool
-    ensures { Roomy words.old → (content : List ℕ)
-        → Ends (modulus_of progress.field) (left_by progress words.old buf.now) words.old content
-        → Prints content (W.contents output.old) (W.contents output.new) result }
-{
-    let mut out = [0u64; fillfile::OUTPUT];
-    let mut scratch = [0u64; fillfile::SCRATCH];
-    let mut text = [0u8; fillfile::TEXT];
-    let Put::At(end) = fillfile::finish(progress, buf, words, &mut out, &mut scratch, &mut text)
-    else {
-        return false;
-    };
-    match stdio::write_first(rt, output, &text, end) {
-        Wrote::Whole => true,
-        Wrote::Short | Wrote::Failed => false,
+    words: [u64; fillfile::WORDS],
+}
+
+impl Filter for Fill {
+    ghost printed = { fill_text p };
+
+    ghost kept = { λ fill. fill.progress.kept };
+
+    ghost has_taken = { λ fill. HasTaken fill.progress fill.words };
+
+    fn kept(&self) -> usize {
+        self.progress.kept
+    }
+
+    fn advance(&mut self, buf: &mut [u8], filled: usize) {
+        self.progress = fillfile::advance(self.progress, buf, filled, &mut self.words);
+    }
+
+    fn print_end<W: io::Write>(&mut self, output: &mut W, buf: &[u8]) -> Result<(), Failure> {
+        let mut out = [0u64; fillfile::OUTPUT];
+        let mut scratch = [0u64; fillfile::SCRATCH];
+        let mut text = [0u8; fillfile::TEXT];
+        let words = &mut self.words;
+        let end = fillfile::finish(
+            self.progress,
+            buf,
+            words,
+            &mut out,
+            &mut scratch,
+            &mut text,
+        ).ok_or(Failure::Short)?;
+        stdio::write_first(output, &text, end)
     }
 }
 
-// Reads to the end of input and prints, and says whether all of it is printed. A proved loop has to
-// end, and nothing says that an input does: the turns are counted down from a number that no run
-// uses up.
+// Reads to the end of input and prints.
 fn run<R: io::Read, W: io::Write>(
-    rt: &impl Eprint,
     input: &mut R,
     output: &mut W,
     buf: &mut [u8],
-    words: &mut [u64],
-) -> bool
-    ensures { Roomy words.old
-        → Fills (R.remaining input.old) (W.contents output.old) (W.contents output.new) result }
+) -> Result<(), Failure>
+    ensures { Fills (R.remaining input.old) (W.contents output.old) (W.contents output.new) result }
 {
-    let mut progress = fillfile::start(Modulus::M31);
-    let mut turns = u64::MAX;
-    while turns > 0 {
-        match stdio::read_behind(rt, input, buf, progress.kept) {
-            Read::Filled(end) => progress = fillfile::advance(progress, buf, end, words),
-            Read::Ended => return print_end(rt, output, progress, buf, words),
-            Read::Failed => return false,
-        }
-        turns -= 1;
-    }
-    false
+    let mut fill = Fill {
+        progress: fillfile::start(Modulus::M31),
+        words: [0; fillfile::WORDS],
+    };
+    filter::run(&mut fill, input, output, buf)
 }
 
 fn main(rt: HostRuntime) {
     let mut buf = [0u8; pieces::KEPT + stdio::BLOCK];
-    let mut words = [0u64; fillfile::WORDS];
-    run(&rt, &mut rt.stdin(), &mut rt.stdout(), &mut buf, &mut words);
+    if let Err(e) = run(&mut rt.stdin(), &mut rt.stdout(), &mut buf) {
+        let _ = eprintln!(rt; "{e}");
+    }
 }

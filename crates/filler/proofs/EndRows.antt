@@ -1,11 +1,12 @@
 -- The end rows and range rows that the scratch words give, written one at a time, and how many they
 -- are.
 -- Assumes nothing.
-use Prim.Native.Nat.{ℕ, zero, suc, ◌+◌, ◌-◌, ◌*◌, ◌≤◌, ◌<◌}
+use Prim.Native.Nat.{ℕ, zero, suc, ◌+◌, ◌-◌, ◌*◌, ◌/◌, ◌≤◌, ◌<◌}
 use native.Mathlib.Omega.{arith}
-use mathlib.Core.Path.{◌≡◌, refl, ap, ◌∙◌}
+use native.Mathlib.Numerals.{add-one}
+use mathlib.Core.Path.{◌≡◌, refl, sym, ap, ◌∙◌}
 use mathlib.Core.List.{List, [], ◌∷◌}
-use lib.ListN.{length, get_or, drop, length-append}
+use lib.ListN.{length, get_or, drop, length-append, drop_of_length-le}
 use lib.Seq.{sets}
 use Rattle.memory.specs.declared.Memory.{Memory}
 use Rattle.memory.specs.declared.Memory.TheVariants.{Ram, Rom, Set, Stack, Queue}
@@ -19,8 +20,9 @@ use Rattle.words.specs.Counts.{lookups_in}
 use Rattle.index.specs.Values.{values_in}
 use Rattle.layout.specs.Laid.{laid}
 use Rattle.filler.specs.Ends.{cell_ends, value_ends, ranges, ending, EndingFits}
-use Rattle.filler.proofs.Inputs.{values_cons, values_count}
-use Rattle.layout.proofs.Laid.{laid_put}
+use Rattle.index.proofs.Values.{values_many}
+use Rattle.filler.proofs.Inputs.{values_cons}
+use Rattle.layout.proofs.Laid.{laid_none, laid_put}
 
 -- the words of an end row and of a range row
 end_words : (v o t n : ℕ) → ◌≡◌ {A = List ℕ} (8 ∷ 0 ∷ 0 ∷ v ∷ o ∷ t ∷ n ∷ []) (row_numbers (end_row v o t n ∷ []))
@@ -38,33 +40,53 @@ less_by_one c i h = omega arith
 one_later : (j i : ℕ) → suc (j + i) ≡ j + (i + 1)
 one_later j i = omega arith
 
-pub cells_turn : (inits ops : List ℕ) (j c i : ℕ) (s out : List ℕ) → i < c → 7 * c ≤ length out
-    → laid out (7 * i) (cell_ends inits ops (j + i) (c - i) s)
-    ≡ laid (sets out (7 * i) (8 ∷ 0 ∷ 0 ∷ 0 ∷ content_in inits ops (j + i) (get_or s (j + i) 0) ∷ time_in (get_or s (j + i) 0) ∷ 0 ∷ [])) (7 * (i + 1)) (cell_ends inits ops (j + (i + 1)) (c - (i + 1)) s)
+-- one row more is written
+pub cells_turn : (inits ops : List ℕ) (j c i : ℕ) (s out out' : List ℕ) → i < c → 7 * c ≤ length out
+    → out' ≡ sets out (7 * i) (8 ∷ 0 ∷ 0 ∷ 0 ∷ content_in inits ops (j + i) (get_or s (j + i) 0) ∷ time_in (get_or s (j + i) 0) ∷ 0 ∷ [])
+    → laid out (7 * i) (cell_ends inits ops (j + i) (c - i) s) ≡ laid out' (7 * (i + 1)) (cell_ends inits ops (j + (i + 1)) (c - (i + 1)) s)
 unfolding cell_ends
-cells_turn inits ops j c i s out h room =
+cells_turn inits ops j c i s out out' h room put =
     let content : ℕ = content_in inits ops (j + i) (get_or s (j + i) 0) in
     let time : ℕ = time_in (get_or s (j + i) 0) in
     ap (λ (n : ℕ). laid out (7 * i) (cell_ends inits ops (j + i) n s)) (less_by_one c i h)
     ∙ laid_put out i _ _ _ (end_words 0 content time 0) (omega arith)
-    ∙ ap (λ (n : ℕ). laid (sets out (7 * i) (8 ∷ 0 ∷ 0 ∷ 0 ∷ content ∷ time ∷ 0 ∷ [])) (7 * (i + 1)) (cell_ends inits ops n (c - (i + 1)) s)) (one_later j i)
+    ∙ (λ x. laid (sym put x) (7 * (i + 1)) (cell_ends inits ops (one_later j i x) (c - (i + 1)) s))
 
-pub ranges_turn : (j c i : ℕ) (s out : List ℕ) → i < c → 7 * c ≤ length out
-    → laid out (7 * i) (ranges (j + i) (c - i) s)
-    ≡ laid (sets out (7 * i) (9 ∷ 0 ∷ 0 ∷ 0 ∷ 0 ∷ 0 ∷ get_or s (j + i) 0 ∷ [])) (7 * (i + 1)) (ranges (j + (i + 1)) (c - (i + 1)) s)
+pub ranges_turn : (j c i : ℕ) (s out out' : List ℕ) → i < c → 7 * c ≤ length out
+    → out' ≡ sets out (7 * i) (9 ∷ 0 ∷ 0 ∷ 0 ∷ 0 ∷ 0 ∷ get_or s (j + i) 0 ∷ [])
+    → laid out (7 * i) (ranges (j + i) (c - i) s) ≡ laid out' (7 * (i + 1)) (ranges (j + (i + 1)) (c - (i + 1)) s)
 unfolding ranges
-ranges_turn j c i s out h room =
+ranges_turn j c i s out out' h room put =
     ap (λ (n : ℕ). laid out (7 * i) (ranges (j + i) n s)) (less_by_one c i h)
     ∙ laid_put out i _ _ _ (range_words (get_or s (j + i) 0)) (omega arith)
-    ∙ ap (λ (n : ℕ). laid (sets out (7 * i) (9 ∷ 0 ∷ 0 ∷ 0 ∷ 0 ∷ 0 ∷ get_or s (j + i) 0 ∷ [])) (7 * (i + 1)) (ranges n (c - (i + 1)) s)) (one_later j i)
+    ∙ (λ x. laid (sym put x) (7 * (i + 1)) (ranges (one_later j i x) (c - (i + 1)) s))
 
-pub values_turn : (i : ℕ) (inits s out : List ℕ) → 4 * i + 4 ≤ length inits → 7 * i + 7 ≤ length out
-    → laid out (7 * i) (value_ends i (drop i (values_in inits)) s)
-    ≡ laid (sets out (7 * i) (8 ∷ 0 ∷ 0 ∷ value_at inits i ∷ 0 ∷ 0 ∷ lookups_in (get_or s i 0) ∷ [])) (7 * (i + 1)) (value_ends (suc i) (drop (suc i) (values_in inits)) s)
+pub values_turn : (i : ℕ) (inits s out out' : List ℕ) → 4 * i + 4 ≤ length inits → 7 * i + 7 ≤ length out
+    → out' ≡ sets out (7 * i) (8 ∷ 0 ∷ 0 ∷ value_at inits i ∷ 0 ∷ 0 ∷ lookups_in (get_or s i 0) ∷ [])
+    → laid out (7 * i) (value_ends i (drop i (values_in inits)) s) ≡ laid out' (7 * (i + 1)) (value_ends (i + 1) (drop (i + 1) (values_in inits)) s)
 unfolding value_ends
-values_turn i inits s out h room =
+values_turn i inits s out out' h room put =
     ap (λ (vs : List ℕ). laid out (7 * i) (value_ends i vs s)) (values_cons inits i h)
     ∙ laid_put out i _ _ _ (end_words (value_at inits i) 0 0 (lookups_in (get_or s i 0))) room
+    ∙ (λ x. laid (sym put x) (7 * (i + 1)) (value_ends (sym (add-one i) x) (drop (sym (add-one i) x) (values_in inits)) s))
+
+-- and none is left
+pub cells_done : (inits ops : List ℕ) (j c i : ℕ) (s out : List ℕ) → c ≤ i → laid out (7 * i) (cell_ends inits ops (j + i) (c - i) s) ≡ out
+unfolding cell_ends
+cells_done inits ops j c i s out h =
+    let none : c - i ≡ 0 = omega arith in
+    ap (λ (n : ℕ). laid out (7 * i) (cell_ends inits ops (j + i) n s)) none ∙ laid_none out (7 * i)
+
+pub ranges_done : (j c i : ℕ) (s out : List ℕ) → c ≤ i → laid out (7 * i) (ranges (j + i) (c - i) s) ≡ out
+unfolding ranges
+ranges_done j c i s out h =
+    let none : c - i ≡ 0 = omega arith in
+    ap (λ (n : ℕ). laid out (7 * i) (ranges (j + i) n s)) none ∙ laid_none out (7 * i)
+
+pub values_done : (i : ℕ) (inits s out : List ℕ) → length inits ≤ 4 * i → laid out (7 * i) (value_ends i (drop i (values_in inits)) s) ≡ out
+unfolding value_ends
+values_done i inits s out h =
+    ap (λ (vs : List ℕ). laid out (7 * i) (value_ends i vs s)) (drop_of_length-le (values_in inits) {i = i} (omega (arith, values_many inits))) ∙ laid_none out (7 * i)
 
 pub cells_count : (inits ops : List ℕ) (j c : ℕ) (s : List ℕ) → length (cell_ends inits ops j c s) ≡ c
 unfolding cell_ends
@@ -76,16 +98,19 @@ unfolding ranges
 ranges_count j zero s = refl
 ranges_count j (suc t) s = ap suc (ranges_count (suc j) t s)
 
-pub values_ends_count : (j : ℕ) (vs s : List ℕ) → length (value_ends j vs s) ≡ length vs
+values_ends_each : (j : ℕ) (vs s : List ℕ) → length (value_ends j vs s) ≡ length vs
 unfolding value_ends
-values_ends_count j [] s = refl
-values_ends_count j (v ∷ vs) s = ap suc (values_ends_count (suc j) vs s)
+values_ends_each j [] s = refl
+values_ends_each j (v ∷ vs) s = ap suc (values_ends_each (suc j) vs s)
+
+pub values_ends_count : (inits s : List ℕ) → length (value_ends 0 (values_in inits) s) ≡ length inits / 4
+values_ends_count inits s = values_ends_each 0 (values_in inits) s ∙ values_many inits
 
 -- the rows after the operations have room
 pub ending_room : (m : Memory) (w t : ℕ) (at : Cursor) (inits ops s out : List ℕ) → EndingFits m w t at inits s out → 7 * length (ending m w t at inits ops s) ≤ length out
 unfolding ending
 ending_room Ram w t at inits ops s out f = omega (arith, length-append (cell_ends inits ops 0 w s) (ranges w t s), cells_count inits ops 0 w s, ranges_count w t s, f.room)
-ending_room Rom w t at inits ops s out f = omega (arith, values_ends_count 0 (values_in inits) s, values_count inits w f.count, f.room)
-ending_room Set w t at inits ops s out f = omega (arith, values_ends_count 0 (values_in inits) s, values_count inits w f.count, f.room)
+ending_room Rom w t at inits ops s out f = omega (arith, values_ends_count inits s, f.count, f.room)
+ending_room Set w t at inits ops s out f = omega (arith, values_ends_count inits s, f.count, f.room)
 ending_room Stack w t at inits ops s out f = omega (arith, length-append (cell_ends inits ops 0 at.tail s) (ranges w t s), cells_count inits ops 0 at.tail s, ranges_count w t s, f.room)
 ending_room Queue w t at inits ops s out f = omega (arith, cells_count inits ops at.head (at.tail - at.head) s, f.within, f.room)

@@ -19,7 +19,7 @@ use Rattle.faults.specs.Inputs.{input_at}
 use Rattle.faults.proofs.Inputs.{four_more₀, inputs_cons, inputs_many}
 
 pub inputs_count : (inputs : List ℕ) (n : ℕ) → 4 * n ≡ length inputs → length (inputs_in inputs) ≡ n
-inputs_count inputs n h = inputs_many inputs n (omega arith) (omega arith)
+inputs_count inputs n h = omega (arith, inputs_many inputs)
 
 pub inputs_take : (inputs : List ℕ) (n : ℕ) → 4 * n ≤ length inputs → inputs_in (take (4 * n) inputs) ≡ take n (inputs_in inputs)
 unfolding inputs_in
@@ -57,4 +57,4 @@ values_cons inputs k h =
     ∙ ap (λ (vs : List ℕ). value_at inputs k ∷ vs) (sym (map_drop f (inputs_in inputs) (suc k)))
 
 pub values_count : (inputs : List ℕ) (n : ℕ) → 4 * n ≡ length inputs → length (values_in inputs) ≡ n
-values_count inputs n h = values_many inputs n (omega arith) (omega arith)
+values_count inputs n h = omega (arith, values_many inputs)

@@ -51,9 +51,9 @@ wide Set n t inits h = h
 wide Stack n t inits h = refl
 wide Queue n t inits h = refl
 
-pub given_of_lem : (m : Memory) (n t : ℕ) (inits ops out s : List ℕ) → Fillable m n t inits ops out s → Given (width_of m n t) t ops out
+pub given_of_lem : (m : Memory) (n t : ℕ) (inits ops out s : List ℕ) → 4 * t ≡ length ops → Fillable m n t inits ops out s → Given (width_of m n t) t ops out
 unfolding width_of
-given_of_lem m n t inits ops out s f = record { rows = f.operating; short = f.count; room = go m f.out_room }
+given_of_lem m n t inits ops out s operating f = record { rows = operating; short = f.count; room = go m f.out_room }
   where
     go : (m : Memory) → 7 * (n + 3 * t) ≤ length out → 7 * (t + width_of m n t + t) ≤ length out
     go Ram h = omega arith
@@ -66,17 +66,17 @@ given_of_lem m n t inits ops out s f = record { rows = f.operating; short = f.co
 empty : (n : ℕ) (m : Memory) (values : List ℕ) (ops : List ℕ) → n ≡ 0 → Clean m values n (inputs_in ops) → Clean m values 0 (inputs_in ops)
 empty n m values ops e c = subst (λ (l : ℕ). Clean m values l (inputs_in ops)) e c
 
-pub progress_start : (m : Memory) (n t : ℕ) (inits ops out s : List ℕ) → Fillable m n t inits ops out s → Prepared m n inits s
+pub progress_start : (m : Memory) (n t : ℕ) (inits ops out s : List ℕ) → 4 * n ≡ length inits → Fillable m n t inits ops out s → Prepared m n inits s
     → Progress m (width_of m n t) t inits ops out 0 (record { clock = 1; head = 0; tail = 0 }) out s
 unfolding width_of sized used_words
-progress_start m n t inits ops out s f prepared = go m (record { modulus = f.modulus; place = n + 1; none = f.clean }) prepared f.allowed
+progress_start m n t inits ops out s starting f prepared = go m (record { modulus = f.modulus; place = n + 1; none = f.clean }) prepared f.allowed
   where
     words : length s ≡ n + 2 * t
     words = f.scratch_used
 
     go : (m : Memory) → Clean m (values_in inits) n (inputs_in ops) → Prepared m n inits s → sized m n ≡ true
         → Progress m (width_of m n t) t inits ops out 0 (record { clock = 1; head = 0; tail = 0 }) out s
-    go Ram c h a = ram_start n t inits ops out s f.starting h (let r = words in omega arith) c
+    go Ram c h a = ram_start n t inits ops out s starting h (let r = words in omega arith) c
     go Rom c h a = rom_start n t inits ops out s h (let r = words in omega arith) c
     go Set c h a = set_start n t inits ops out s h c
     go Stack c h a = stack_start t t inits ops out s h (let r = words in omega arith) (empty n Stack (values_in inits) ops (eqb-true n 0 a) c)
@@ -112,16 +112,6 @@ module _ (m : Memory) (w t : ℕ) (inits ops out₀ : List ℕ) (given : Given w
       subst (λ (x : Cursor). Progress m w t inits ops out₀ (k + 1) x out' s') (sym e)
       (subst (λ (x : List ℕ). Progress m w t inits ops out₀ (k + 1) (advanced m k at ops) x s') (sym turned.row)
       (subst (λ (x : List ℕ). Progress m w t inits ops out₀ (k + 1) (advanced m k at ops) (sets out (7 * k) (turn m w k at inits ops s).words) x) (sym turned.kept) (progress_turn more)))
-
-  pub progress_long : length out ≡ length out₀
-  progress_long = go m run
-    where
-      go : (m : Memory) → Progress m w t inits ops out₀ k at out s → length out ≡ length out₀
-      go Ram r = r.onward.long
-      go Rom r = r.onward.long
-      go Set r = r.onward.long
-      go Stack r = r.onward.long
-      go Queue r = r.onward.long
 
 -- the rows that the scratch words give after all operations, and that they have room
 module _ (w t : ℕ) (inits ops out₀ : List ℕ) (given : Given w t ops out₀) (at : Cursor) (out s : List ℕ) where

@@ -276,7 +276,7 @@ ram_start w t inits ops out s count zeros roomy clean = record {
   ages = [];
   count = length-map (values_in inits) start ∙ values_count inits w count;
   held = λ j h. record {
-    content = ap (content_in inits ops j) (zeros j) ∙ sym (values_at inits j (omega arith)) ∙ sym (ap (λ (c : Cell). c.content) (at j));
+    content = ap (content_in inits ops j) (zeros j) ∙ values_at inits j ∙ sym (ap (λ (c : Cell). c.content) (at j));
     time = ap time_in (zeros j) ∙ sym (ap (λ (c : Cell). c.time) (at j));
   };
   sources = λ j h. omega (arith, ap source_in (zeros j));

@@ -58,7 +58,7 @@ module _ (w t : ℕ) (inits ops out₀ : List ℕ) (given : Given w t ops out₀
       let inside : addr_at ops k < w = rom_inside in
       let key : ℕ = addr_at ops k in
       let op : op_at ops k ≡ 2 = form_rom (op_at ops k) (guard_at ops k) key (value_at ops k) turn.here.formed in
-      let old : value_at inits key ≡ get_or (values_in inits) key 0 = sym (values_at inits key (omega arith)) in
+      let old : value_at inits key ≡ get_or (values_in inits) key 0 = values_at inits key in
       record {
         keys = key ∷ run.keys;
         looked = let l = run.looked in omega arith;

@@ -11,10 +11,9 @@ use lib.ListN.{length, get_or, take, drop, replicate, length-append, length-repl
 use lib.Seq.{length-take-le, take_at, get_or-take, ext_get_or}
 use Rattle.memory.specs.declared.Memory.{Memory}
 use Rattle.memory.specs.declared.Memory.TheVariants.{Set}
-use Rattle.memory.specs.Rows.{limit}
 use Rattle.index.specs.Values.{values_in}
 use Rattle.index.specs.Tree.{grown}
-use Rattle.filler.specs.Write.{Blank, TreeBuilt, Prepared}
+use Rattle.filler.specs.Write.{Blank, Unprepared, TreeBuilt, Prepared}
 use Rattle.filler.proofs.Inputs.{values_count}
 
 pub blank_all : (n j : ℕ) → ◌≡◌ {A = ℕ} (get_or (replicate n 0) j 0) 0
@@ -29,13 +28,13 @@ blank_part n s h b =
     ext_get_or 0 (take n s) (replicate n 0) (long ∙ sym (length-replicate n 0))
     (λ i low. get_or-take n s i 0 (omega arith) ∙ b i ∙ sym (get_or-replicate n i 0 0 (omega arith)))
 
-pub tree_built : (n : ℕ) (inits s part : List ℕ) → 4 * n ≡ length inits → n ≤ length s → n ≤ limit → Blank s → length part ≡ n → part ≡ grown (values_in inits) (take n s)
+pub tree_built : (n : ℕ) (inits s part : List ℕ) → 4 * n ≡ length inits → Unprepared n s → length part ≡ n → part ≡ grown (values_in inits) (take n s)
     → TreeBuilt n inits (part ++ drop n s)
-tree_built n inits s part count room few b long grows = record {
+tree_built n inits s part count u long grows = record {
   held = count;
-  few = few;
-  room = omega (arith, long, length-append part (drop n s));
-  is = take_at part (drop n s) n long ∙ grows ∙ ap (grown (values_in inits)) (blank_part n s room b);
+  few = u.few;
+  room = let r = u.room in omega (arith, long, length-append part (drop n s));
+  is = take_at part (drop n s) n long ∙ grows ∙ ap (grown (values_in inits)) (blank_part n s u.room u.blank);
 }
 
 pub prepared_tree : (m : Memory) (n : ℕ) (inits s : List ℕ) → Prepared m n inits s → m ≡ Set

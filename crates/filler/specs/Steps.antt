@@ -15,7 +15,7 @@ use Rattle.words.specs.Cells.{packed, source_in, time_in, content_in}
 use Rattle.words.specs.Counts.{lookup, lookups_in}
 use Rattle.index.specs.Values.{values_in, first_at}
 use Rattle.filler.specs.declared.steps.Cursor.{Cursor}
-use Rattle.filler.specs.declared.steps.Advice.{Advice}
+use Rattle.words.specs.declared.Advice.{Advice}
 use Rattle.filler.specs.Words.{copied, TreeIn}
 
 -- The words of a row, and the scratch words after it
@@ -31,16 +31,18 @@ pub record Turned (k : ℕ) (t : Turn) (out out' s' : List ℕ) : Type 0 where
   pub row : out' ≡ sets out (7 * k) t.words
   pub kept : s' ≡ t.scratch
 
--- What an operation is told: its advice with the cursor after it, and the scratch words after it
+-- What an operation is told: its advice, the cursor after it, and the scratch words after it
 pub record Told : Type 0 where
   pub advice : Advice
+  pub next : Cursor
   pub scratch : List ℕ
 
 abbrev pub told : ℕ → ℕ → ℕ → Cursor → List ℕ → Told
-told o t v next s = record { advice = record { old = o; time = t; version = v; next = next }; scratch = s }
+told o t v next s = record { advice = record { old = o; time = t; version = v }; next = next; scratch = s }
 
-pub record Advised (t : Told) (r : Advice) (s' : List ℕ) : Type 0 where
-  pub advice : r ≡ t.advice
+pub record Advised (t : Told) (advice : Advice) (next : Cursor) (s' : List ℕ) : Type 0 where
+  pub told : advice ≡ t.advice
+  pub later : next ≡ t.next
   pub kept : s' ≡ t.scratch
 
 -- the turn of operation k, by what it is told

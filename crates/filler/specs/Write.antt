@@ -43,8 +43,6 @@ pub record Fillable (m : Memory) (n t : ℕ) (inits ops out s : List ℕ) : Type
   pub size : n ≤ limit
   pub count : t ≤ limit
   pub allowed : sized m n ≡ true
-  pub starting : 4 * n ≡ length inits
-  pub operating : 4 * t ≡ length ops
   pub out_room : 7 * (n + 3 * t) ≤ length out
   pub scratch_used : length s ≡ used_words n t
   pub modulus : ℕ
@@ -54,11 +52,15 @@ pub record Fillable (m : Memory) (n t : ℕ) (inits ops out s : List ℕ) : Type
 abbrev pub Blank : List ℕ → Type 0
 Blank s = (j : ℕ) → get_or s j 0 ≡ 0
 
--- as many rows as size and count say, room for the output, and as many scratch words as may be
--- used, which are 0
-pub record Within (m : Memory) (n t : ℕ) (rows out s : List ℕ) : Type 0 where
+-- scratch words that are all 0, one for each of n init rows and more
+pub record Unprepared (n : ℕ) (s : List ℕ) : Type 0 where
+  pub few : n ≤ limit
+  pub room : n ≤ length s
+  pub blank : Blank s
+
+-- room for the output, and as many scratch words as may be used, which are 0
+pub record Within (m : Memory) (n t : ℕ) (out s : List ℕ) : Type 0 where
   pub proper : allowed m n t ≡ true
-  pub all : length rows ≡ 4 * (n + t)
   pub out_room : 7 * room n t ≤ length out
   pub scratch_used : length s ≡ used_words n t
   pub blank : Blank s

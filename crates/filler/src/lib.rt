@@ -2,185 +2,144 @@
 // words an output row.
 #![tactic(auto)]
 
-use faults::Fault;
+pub use faults::Refused;
 use field::moduli::Modulus;
-use memory::{Memory, numbers};
+use index::Tree;
+use memory::Memory;
+use memory::faults::Fault;
 use rules::sizes;
+use trace::Trace;
+use words::Advice;
 
 mod ends;
 mod steps;
+mod trace;
 mod write;
 
-ghost use Rattle.std.specs.Prelude.{true, map, ◌≡◌, ◌+◌, ◌*◌, ◌≤◌, length, take, drop, replicate};
+ghost use Rattle.std.specs.Prelude.{map, ◌≡◌, ◌+◌, ◌*◌, ◌≤◌, length, take, drop, replicate, true};
 ghost use Rattle.field.specs.Moduli.{modulus_of};
+ghost use Rattle.memory.specs.Faults.{fault_of};
 ghost use Rattle.runs.specs.Honest.{bare, filled_rows};
-ghost use Rattle.memory.specs.Rows.{sized, limit};
-ghost use Rattle.runs.specs.Filler.{inputs_in, memory_coded, rows_fault, fill_rows, fill_of};
+ghost use Rattle.memory.specs.Rows.{sized};
+ghost use Rattle.runs.specs.Filler.{inputs_in, rows_fault, fill_rows, fill_of};
 ghost use Rattle.index.specs.Values.{values_in};
-ghost use Rattle.filler.specs.Answer.{filled_of, known_of, away_by, Roomy};
+ghost use Rattle.filler.specs.Answer.{filled_of, numbered_fill, away_by, Roomy, Fills};
 ghost use Rattle.layout.specs.Laid.{laid};
 ghost use Rattle.faults.specs.Scan.{placed_of};
-ghost use Rattle.filler.specs.Write.{CleanInits, Fillable, Prepared, Blank, Within};
-
-// What a fill comes to: how many rows it wrote, or the number and the place of its refusal.
-#[derive(Clone, Copy)]
-pub enum Filled {
-    Rows(usize),
-    Refused(u32, usize),
-}
-
-// The memory that a number stands for.
-#[derive(Clone, Copy)]
-enum Known {
-    Is(Memory),
-    Unknown,
-}
-
-fn memory_of(code: u32) -> Known
-    ensures { known_of result ≡ memory_coded code }
-{
-    match code {
-        0 => Known::Is(Memory::Ram),
-        1 => Known::Is(Memory::Rom),
-        2 => Known::Is(Memory::Set),
-        3 => Known::Is(Memory::Stack),
-        4 => Known::Is(Memory::Queue),
-        _ => Known::Unknown,
-    }
-}
+ghost use Rattle.filler.specs.Write.{CleanInits, Fillable, Prepared, Unprepared, Within};
 
 // Copies the init rows.
-fn copy_inits(n: usize, inits: &[u64], out: &mut [u64])
-    requires fits { (4 * n ≡ length inits.now) × (7 * n ≤ length out.old) }
-    requires clean_inits { CleanInits inits.now }
-    ensures { out.new ≡ laid out.old 0 (map bare (inputs_in inits.now)) }
+#[tactic(auto, using(crate::proofs::InitRows::init_laid, crate::proofs::InitRows::clean_later, crate::proofs::InitRows::inits_done))]
+fn copy_inits(trace: Trace, out: &mut [u64])
+    requires out_room { 7 * trace.n ≤ length out.old }
+    requires clean_inits { CleanInits trace.inits.now }
+    ensures { out.new ≡ laid out.old 0 (map bare (inputs_in trace.entry.inits.now)) }
 {
-    let mut k = 0;
-    while k < n {
-        words::put(k, words::read(inits, k), 0, 0, 0, out);
-        k += 1;
+    for k in 0..trace.n {
+        words::put(k, words::read(trace.inits, k), Advice::default(), out);
     }
 }
 
 // Writes all rows, where none has a fault; how many they are. The part of the output after the init
 // rows is handed on.
-fn write_rows(
-    m: Memory,
-    n: usize,
-    t: usize,
-    inits: &[u64],
-    ops: &[u64],
-    out: &mut [u64],
-    scratch: &mut [u64],
-) -> usize
-    requires clean_inits { CleanInits inits.now }
-    requires out_room { 7 * n ≤ length out.old }
-    requires fillable { Fillable m n t inits.now ops.now (drop (7 * n) out.old) scratch.old }
-    requires prepared { Prepared m n inits.now scratch.old }
-    ensures rows { out.new ≡ laid out.old 0 (filled_rows m t (inputs_in inits.now) (inputs_in ops.now)) }
+fn write_rows(trace: Trace, out: &mut [u64], scratch: &mut [u64]) -> usize
+    requires clean_inits { CleanInits trace.inits.now }
+    requires out_room { 7 * trace.n ≤ length out.old }
+    requires fillable { Fillable trace.memory trace.n trace.t trace.inits.now trace.ops.now (drop (7 * trace.n) out.old) scratch.old }
+    requires prepared { Prepared trace.memory trace.n trace.inits.now scratch.old }
+    ensures rows { out.new ≡ laid out.old 0 (filled_rows trace.entry.memory trace.entry.t (inputs_in trace.entry.inits.now) (inputs_in trace.entry.ops.now)) }
     ensures blank { scratch.new ≡ replicate (length scratch.old) 0 }
-    ensures count { result ≡ length (filled_rows m t (inputs_in inits.now) (inputs_in ops.now)) }
+    ensures count { result ≡ length (filled_rows trace.entry.memory trace.entry.t (inputs_in trace.entry.inits.now) (inputs_in trace.entry.ops.now)) }
 {
-    copy_inits(n, inits, out);
-    let from = 7 * n;
-    let more = write::rows_after(m, n, t, inits, ops, &mut out[from..], scratch);
+    copy_inits(trace, out);
+    let from = 7 * trace.n;
+    let more = write::rows_after(trace, &mut out[from..], scratch);
     words::clear(scratch); // "After a fill scratch is all 0"
-    n + more
+    trace.n + more
 }
 
 // The first fault of the rows, found with the scratch words as they are before the first operation.
 // They are lent as 0.
-fn first_fault(
-    field: Modulus,
-    m: Memory,
-    n: usize,
-    inits: &[u64],
-    ops: &[u64],
-    scratch: &mut [u64],
-) -> Fault
-    requires fits { (4 * n ≡ length inits.now) × (n ≤ limit) × (n ≤ length scratch.old) }
-    requires allowed { sized m n ≡ true }
-    requires blank { Blank scratch.old }
-    ensures fault { placed_of result ≡ rows_fault (modulus_of field) m (values_in inits.now) 1 (inputs_in inits.now) (inputs_in ops.now) }
-    ensures prepared { Prepared m n inits.now scratch.new }
+fn first_fault(field: Modulus, trace: Trace, scratch: &mut [u64]) -> Result<(), Refused>
+    requires unprepared { Unprepared trace.n scratch.old }
+    requires allowed { sized trace.memory trace.n ≡ true }
+    ensures fault { placed_of result ≡ rows_fault (modulus_of field) trace.entry.memory (values_in trace.entry.inits.now) 1 (inputs_in trace.entry.inits.now) (inputs_in trace.entry.ops.now) }
+    ensures prepared { Prepared trace.entry.memory trace.entry.n trace.entry.inits.now scratch.new }
 {
-    write::prepare(m, n, inits, scratch);
-    faults::first(field, m, inits, &scratch[..n], ops)
+    write::prepare(trace, scratch);
+    let tree = Tree {
+        inits: trace.inits,
+        links: &scratch[..trace.n],
+    };
+    faults::first(field, trace.memory, tree, trace.ops)
 }
 
-// The filler on rows that are as many as they should be, with room for their rows and exactly
-// n + 2t scratch words, which are 0.
+// The filler with room for the rows and exactly n + 2t scratch words, which are 0.
 fn fill_within(
     field: Modulus,
-    m: Memory,
-    n: usize,
-    t: usize,
-    rows: &[u64],
+    trace: Trace,
     out: &mut [u64],
     scratch: &mut [u64],
-) -> Filled
-    requires { Within m n t rows.now out.old scratch.old }
-    ensures answer { result ≡ filled_of (fill_rows (modulus_of field) m t (take n (inputs_in rows.now)) (drop n (inputs_in rows.now)) out.old scratch.old) }
-    ensures output { out.new ≡ (fill_rows (modulus_of field) m t (take n (inputs_in rows.now)) (drop n (inputs_in rows.now)) out.old scratch.old).output }
-    ensures words { scratch.new ≡ (fill_rows (modulus_of field) m t (take n (inputs_in rows.now)) (drop n (inputs_in rows.now)) out.old scratch.old).scratch }
+) -> Result<usize, Refused>
+    requires { Within trace.memory trace.n trace.t out.old scratch.old }
+    ensures { Fills (fill_rows (modulus_of field) trace.entry.memory trace.entry.t (inputs_in trace.entry.inits.now) (inputs_in trace.entry.ops.now) out.old scratch.old) result out.new scratch.new }
 {
-    let from = 4 * n;
-    let inits = &rows[..from];
-    let ops = &rows[from..];
-    let fault = first_fault(field, m, n, inits, ops, scratch);
-    if fault.number != 0 {
+    if let Err(refused) = first_fault(field, trace, scratch) {
         words::clear_both(out, scratch);
-        return Filled::Refused(fault.number, fault.place);
+        return Err(refused);
     }
-    Filled::Rows(write_rows(m, n, t, inits, ops, out, scratch))
+    Ok(write_rows(trace, out, scratch))
 }
 
-// The filler on rows that are as many as they should be, with room. Of the scratch words only the
-// first n + 2t are handed on; the others are cleared.
+// The filler with room. Of the scratch words only the first n + 2t are handed on; the others are
+// cleared.
 fn fill_rows(
     field: Modulus,
-    m: Memory,
-    n: usize,
-    t: usize,
-    rows: &[u64],
+    trace: Trace,
     out: &mut [u64],
     scratch: &mut [u64],
-) -> Filled
-    requires { Roomy m n t rows.now out.old scratch.old }
-    ensures answer { result ≡ filled_of (fill_rows (modulus_of field) m t (take n (inputs_in rows.now)) (drop n (inputs_in rows.now)) out.old scratch.old) }
-    ensures output { out.new ≡ (fill_rows (modulus_of field) m t (take n (inputs_in rows.now)) (drop n (inputs_in rows.now)) out.old scratch.old).output }
-    ensures words { scratch.new ≡ (fill_rows (modulus_of field) m t (take n (inputs_in rows.now)) (drop n (inputs_in rows.now)) out.old scratch.old).scratch }
+) -> Result<usize, Refused>
+    requires { Roomy trace.memory trace.n trace.t out.old scratch.old }
+    ensures { Fills (fill_rows (modulus_of field) trace.entry.memory trace.entry.t (inputs_in trace.entry.inits.now) (inputs_in trace.entry.ops.now) out.old scratch.old) result out.new scratch.new }
 {
     words::clear(scratch);
-    let used = n + 2 * t;
-    fill_within(field, m, n, t, rows, out, &mut scratch[..used])
+    let used = trace.n + 2 * trace.t;
+    fill_within(field, trace, out, &mut scratch[..used])
 }
 
-// 4, 7, 14 and 15, by how long the lent slices are; 0 where there is none.
-fn turned_away(m: Memory, size: u32, count: u32, rows: usize, out: usize, scratch: usize) -> u32
-    ensures { result ≡ away_by m size count rows out scratch }
+// 4, 7, 14 and 15, by how long the lent slices are.
+#[tactic(auto, unfolding(crate::specs::Answer::away_by, runs::specs::Filler::room))]
+fn turned_away(
+    m: Memory,
+    size: u32,
+    count: u32,
+    rows: usize,
+    out: usize,
+    scratch: usize,
+) -> Result<(), Fault>
+    ensures { fault_of result ≡ away_by m size count rows out scratch }
 {
     if !sizes::allowed(m, size as u64, count as u64) {
-        return numbers::NOT_ALLOWED;
+        return Err(Fault::NotAllowed);
     }
     let n = size as usize;
     let t = count as usize;
     if rows != 4 * (n + t) {
-        return numbers::NOT_COMPLETE;
+        return Err(Fault::NotComplete);
     }
     let room = 2 * n + 3 * t;
     if out < 7 * room {
-        return numbers::OUTPUT_SHORT;
+        return Err(Fault::OutputShort);
     }
     if scratch < room {
-        numbers::SCRATCH_SHORT
-    } else {
-        0
+        return Err(Fault::ScratchShort);
     }
+    Ok(())
 }
 
-// "The filler's library tests 4, 7 (rows not size + count), 14, 15, place 0, buffers as found; then
-// each row."
+// How many rows a fill wrote, or its refusal: "The filler's library tests 4, 7 (rows not size +
+// count), 14, 15, place 0, buffers as found; then each row." The memory is a number, since 4 is
+// also "unknown memory".
 pub fn fill(
     field: Modulus,
     memory: u32,
@@ -189,17 +148,27 @@ pub fn fill(
     rows: &[u64],
     out: &mut [u64],
     scratch: &mut [u64],
-) -> Filled
-    ensures answer { result ≡ filled_of (fill_of (modulus_of field) memory size count rows.now out.old scratch.old) }
+) -> Result<usize, Refused>
+    ensures answer { numbered_fill result ≡ filled_of (fill_of (modulus_of field) memory size count rows.now out.old scratch.old) }
     ensures output { out.new ≡ (fill_of (modulus_of field) memory size count rows.now out.old scratch.old).output }
     ensures words { scratch.new ≡ (fill_of (modulus_of field) memory size count rows.now out.old scratch.old).scratch }
 {
-    let Known::Is(m) = memory_of(memory) else {
-        return Filled::Refused(numbers::NOT_ALLOWED, 0);
+    let Ok(memory) = Memory::try_from(memory) else {
+        return Err(Refused {
+            fault: Fault::NotAllowed,
+            place: 0,
+        });
     };
-    let number = turned_away(m, size, count, rows.len(), out.len(), scratch.len());
-    if number != 0 {
-        return Filled::Refused(number, 0);
-    }
-    fill_rows(field, m, size as usize, count as usize, rows, out, scratch)
+    turned_away(memory, size, count, rows.len(), out.len(), scratch.len())?;
+    let n = size as usize;
+    let t = count as usize;
+    let (inits, ops) = rows.split_at(4 * n);
+    let trace = Trace {
+        memory,
+        n,
+        t,
+        inits,
+        ops,
+    };
+    fill_rows(field, trace, out, scratch)
 }

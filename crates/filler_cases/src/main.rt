@@ -1,9 +1,10 @@
-// Cases of the filler's library that the filling program cannot meet: buffers too short, buffers lent dirty, codes and lengths that no file has. Prints for
-// each case the number and place of its refusal or its row count, and then the words of both buffers.
+// Cases of the filler's library that the filling program cannot meet: buffers too short, buffers
+// lent dirty, codes and lengths that no file has. Prints for each case the number and place of its
+// refusal or its row count, and then the words of both buffers.
 #![tactic(auto)]
 
 use field::moduli::Modulus;
-use filler::Filled;
+use filler::Refused;
 
 // A number on a line of its own.
 fn number(rt: &impl Print, n: u64) {
@@ -12,23 +13,22 @@ fn number(rt: &impl Print, n: u64) {
 
 // The words of a slice, each on a line of its own.
 fn words(rt: &impl Print, slice: &[u64]) {
-    let mut i = 0;
-    while i < slice.len() {
-        number(rt, slice[i]);
-        i += 1;
+    for word in slice {
+        number(rt, *word);
     }
 }
 
-fn answer(rt: &impl Print, f: Filled) {
-    match f {
-        Filled::Rows(n) => {
+// Whether the fill came to rows or to a refusal, and then the numbers.
+fn answer(rt: &impl Print, filled: Result<usize, Refused>) {
+    match filled {
+        Ok(rows) => {
             let _ = println!(rt; "rows");
-            number(rt, n as u64);
+            number(rt, rows as u64);
         }
-        Filled::Refused(number_, place) => {
+        Err(refused) => {
             let _ = println!(rt; "refused");
-            number(rt, number_ as u64);
-            number(rt, place as u64);
+            number(rt, u64::from(u32::from(refused.fault)));
+            number(rt, refused.place as u64);
         }
     }
 }
@@ -43,8 +43,10 @@ fn case(
     out: &mut [u64],
     scratch: &mut [u64],
 ) {
-    let f = filler::fill(Modulus::M31, memory, size, count, rows, out, scratch);
-    answer(rt, f);
+    answer(
+        rt,
+        filler::fill(Modulus::M31, memory, size, count, rows, out, scratch),
+    );
     let _ = println!(rt; "output");
     words(rt, out);
     let _ = println!(rt; "scratch");
@@ -112,7 +114,8 @@ fn refused(rt: &impl Print) {
     );
 }
 
-// A set with equal elements, looked up more than once: the first of equal elements gets all lookups.
+// A set with equal elements, looked up more than once: the first of equal elements gets all
+// lookups.
 fn equal_elements(rt: &impl Print) {
     let mut out = [7u64; 154];
     let mut scratch = [9u64; 22];

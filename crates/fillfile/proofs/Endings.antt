@@ -8,34 +8,22 @@ use mathlib.Core.List.{List}
 use lib.ListN.{length, take}
 use borrow.Author.Tests.{eq-eqb, ne_eqb}
 use Rattle.runs.specs.declared.Intake.{Intake}
-use Rattle.memory.specs.Step.{raise}
-use Rattle.runs.specs.Filler.{memory_code, Filling, fill_of}
-use Rattle.memory.specs.Print.{filled_text, refusal_text}
+use Rattle.runs.specs.Filler.{Filling, fill_of}
+use Rattle.memory.specs.Names.{memory_code}
+use Rattle.memory.specs.Print.{refusal_text}
 use Rattle.memory.specs.Pieces.{piece, last_in, end_in}
 use Rattle.runs.specs.FillStream.{Gathered, gathered, rows_due, line_taken, end_taken, due_words}
 use Rattle.runs.proofs.FillStream.{end_values}
 use Rattle.pieces.specs.Calls.{stands_for}
-use Rattle.pieces.proofs.Parts.{take_within}
-use Rattle.filler.specs.declared.Filled.{Filled}
-use Rattle.filler.specs.declared.Filled.TheVariants.{Rows, Refused}
-use Rattle.filler.specs.Answer.{filled_of}
-use Rattle.filler.proofs.Whole.{Fills, fills_same}
-use Rattle.text.specs.declared.Put.{Put}
-use Rattle.text.proofs.Written.{put_text}
+use Rattle.std.specs.Prelude.{Option, Result}
+use Rattle.std.proofs.lemmas.List.{take_min}
+use Rattle.faults.specs.declared.Refused.{Refused}
+use Rattle.filler.specs.Answer.{filled_of, numbered_fill, Fills}
+use Rattle.filler.proofs.Whole.{fills_same}
 use Rattle.fillfile.specs.declared.Progress.{Progress}
 use Rattle.fillfile.specs.Progress.{left_by}
-use Rattle.fillfile.specs.Ending.{output_rows, answer_text, Ending, ended_by, refused_with, ending_of, Ended, end_of, Finished}
-use Rattle.fillfile.proofs.Texts.{Putting}
-
--- the library's answer: rows, or a refusal
-module _ (out : List ℕ) {filled : Filled} where
-  pub rows_answer : {n : ℕ} → filled ≡ Rows n → filled_text (output_rows n out) ≡ answer_text filled out
-  unfolding answer_text
-  rows_answer e = rw e refl
-
-  pub refused_answer : {f k : ℕ} → filled ≡ Refused f k → refusal_text f (raise k 3) ≡ answer_text filled out
-  unfolding answer_text
-  refused_answer e = rw e refl
+use Rattle.fillfile.specs.Ending.{answer_text, Ending, ended_by, refused_with, ending_of, Ended, end_of, Finished}
+use Rattle.fillfile.proofs.Texts.{Putting, put_text}
 
 -- where the lines end, size and count are those of the value line
 end_due : (i : Intake) → rows_due (end_taken i) ≡ rows_due i
@@ -43,7 +31,7 @@ unfolding rows_due
 end_due i = let same = end_values i in omega (arith, same.1, same.2)
 
 -- an ending, by what is printed and left
-ended_as : (q : ℕ) (g : Gathered) (out filled scratch cleared text printed : List ℕ) (r : Put) (e : Ending) → ending_of q g out scratch ≡ e → filled ≡ e.output → cleared ≡ e.scratch
+ended_as : (q : ℕ) (g : Gathered) (out filled scratch cleared text printed : List ℕ) (r : Option ℕ) (e : Ending) → ending_of q g out scratch ≡ e → filled ≡ e.output → cleared ≡ e.scratch
     → Putting text 0 e.text r printed → Ended q g out filled scratch cleared text printed r
 ended_as q g out filled scratch cleared text printed r e is output left put =
     let same = put_text text 0 (ap (λ (x : Ending). x.text) (sym is)) put in
@@ -54,7 +42,7 @@ ended_as q g out filled scratch cleared text printed r e is output left put =
       bytes = same.1;
     }
 
-module _ (q : ℕ) (i : Intake) (ws out scratch text : List ℕ) {x : Intake} (end : x ≡ end_taken i) {r : Put} {printed : List ℕ} where
+module _ (q : ℕ) (i : Intake) (ws out scratch text : List ℕ) {x : Intake} (end : x ≡ end_taken i) {r : Option ℕ} {printed : List ℕ} where
   -- a fault
   pub ended_refused : (x.answer ≡ 0 → ⊥) → Putting text 0 (refusal_text x.answer x.line) r printed
       → Ended q (gathered i ws) out out scratch scratch text printed r
@@ -68,28 +56,28 @@ module _ (q : ℕ) (i : Intake) (ws out scratch text : List ℕ) {x : Intake} (e
 
   -- what the library makes of the rows
   pub ended_filled : (x.answer ≡ 0) → (due count code : ℕ) → due ≡ rows_due x → count ≡ min (4 * due) (length ws) → code ≡ memory_code x.memory
-      → (filled : Filled) (output cleared : List ℕ) → Fills (fill_of q code x.size x.count (take count ws) out scratch) filled output cleared
-      → Putting text 0 (answer_text filled output) r printed → Ended q (gathered i ws) out output scratch cleared text printed r
+      → (filled : Result ℕ Refused) (output cleared : List ℕ) → Fills (fill_of q code x.size x.count (take count ws) out scratch) filled output cleared
+      → Putting text 0 (answer_text (numbered_fill filled) output) r printed → Ended q (gathered i ws) out output scratch cleared text printed r
   unfolding ending_of gathered due_words ended_by
   ended_filled none due count code dues counts codes filled output cleared fills put =
       let rows : take count ws ≡ take (4 * rows_due i) ws =
-      ap (λ (n : ℕ). take n ws) counts ∙ take_within (4 * due) ws ∙ ap (λ (n : ℕ). take (4 * n) ws) (dues ∙ ap rows_due end ∙ end_due i) in
+      ap (λ (n : ℕ). take n ws) counts ∙ take_min (4 * due) ws ∙ ap (λ (n : ℕ). take (4 * n) ws) (dues ∙ ap rows_due end ∙ end_due i) in
       let filling : Filling = fill_of q (memory_code x.memory) x.size x.count (take (4 * rows_due i) ws) out scratch in
       let left : Fills filling filled output cleared = fills_same fills (rw (codes, rows) refl) in
-      let same : answer_text filled output ≡ answer_text (filled_of filling) filling.output = ap₂ answer_text left.0 left.1.0 in
+      let same : answer_text (numbered_fill filled) output ≡ answer_text (filled_of filling) filling.output = ap₂ answer_text left.answer left.output in
       ended_as q (gathered i ws) out output scratch cleared text printed r (ended_by filling)
       (rw (sym end, eq-eqb x.answer 0 none) refl)
-      left.1.0
-      left.1.1
+      left.output
+      left.words
       (put_text text 0 same put)
 
 -- the end of input, with the kept bytes at the front of the buffer
 pub finished : (q : ℕ) (was : Progress) (buffer words : List ℕ) (count : ℕ) → count ≡ min was.kept (length buffer) → (i : Intake) (stored : List ℕ)
-    → gathered i stored ≡ last_in (line_taken q) (gathered was.intake words) (take count buffer) → (out filled scratch cleared text printed : List ℕ) (r : Put)
+    → gathered i stored ≡ last_in (line_taken q) (gathered was.intake words) (take count buffer) → (out filled scratch cleared text printed : List ℕ) (r : Option ℕ)
     → Ended q (gathered i stored) out filled scratch cleared text printed r → Finished q (left_by was words buffer) stored out filled scratch cleared text printed r
 unfolding end_of end_in stands_for left_by piece gathered
 finished q was buffer words count counts i stored last out filled scratch cleared text printed r ended =
-    let front : take count buffer ≡ take was.kept buffer = ap (λ (n : ℕ). take n buffer) counts ∙ take_within was.kept buffer in
+    let front : take count buffer ≡ take was.kept buffer = ap (λ (n : ℕ). take n buffer) counts ∙ take_min was.kept buffer in
     let whole : gathered i stored ≡ end_of q (left_by was words buffer) =
     last ∙ ap (last_in (line_taken q) (gathered was.intake words)) front in
     record {

@@ -22,7 +22,8 @@ use Rattle.memory.specs.File.{no_row}
 use Rattle.runs.specs.Plain.{start, after}
 use Rattle.memory.specs.Step.{top, raise}
 use Rattle.runs.specs.Honest.{Input, filled_rows, input_operation}
-use Rattle.runs.specs.Filler.{memory_code, inputs_in, row_numbers, room, Placed, placed, operation_fault, operations_fault, input_fault, rows_fault, filled_with, row_refused, fill_rows, fill_memory, fill_of}
+use Rattle.runs.specs.Filler.{inputs_in, row_numbers, room, Placed, placed, operation_fault, operations_fault, input_fault, rows_fault, filled_with, row_refused, fill_rows, fill_memory, fill_of}
+use Rattle.memory.specs.Names.{memory_code}
 use Rattle.memory.specs.Print.{filled_text, refusal_text}
 use Rattle.runs.specs.FillFile.{fill_limit, fill_allowed, run_text, fill_text}
 use Rattle.memory.specs.Pieces.{Piece, piece, bytes_in, last_in, end_in}
@@ -36,8 +37,8 @@ use Rattle.pieces.specs.Block.{LinesTaken}
 use Rattle.pieces.specs.Calls.{started, joined}
 use Rattle.pieces.proofs.Feeds.{block_read}
 use Rattle.pieces.proofs.Calls.{calls_read}
-use Rattle.text.specs.declared.Put.{Put}
-use Rattle.text.proofs.Written.{put_text, put_whole}
+use Rattle.std.specs.Prelude.{Option}
+use Rattle.text.proofs.Written.{put_at_start, written_at_start}
 use Rattle.filler.specs.Answer.{filled_of}
 use Rattle.print.proofs.Rows.{row_in_numbers}
 use Rattle.fillfile.specs.Ending.{output_rows, answer_text, ended_by, refused_with, ending_of, Ended, end_of}
@@ -45,7 +46,7 @@ use Rattle.fillfile.specs.declared.Progress.{Progress}
 use Rattle.intake.specs.declared.Taken.{Taken}
 use Rattle.fillfile.specs.Progress.{begun, left_by}
 use Rattle.fillfile.specs.Statements.{PiecesAreText}
-use Rattle.fillfile.proofs.Texts.{Putting}
+use Rattle.fillfile.proofs.Texts.{Putting, put_text}
 
 -- the rows that are read back from their numbers
 first_rows : (rows : List Row) (rest : List ℕ) (k : ℕ) → k ≤ length rows → output_rows k (row_numbers rows ++ rest) ≡ take k rows
@@ -161,7 +162,7 @@ module _ (q : ℕ) (out scratch : List ℕ) (wide : 4480 ≤ length out) (deep :
       go false = refl
 
   -- so the program prints what its definition says of its input
-  program_text : (input words : List ℕ) → 1024 ≤ length words
+  pub program_text : (input words : List ℕ) → 1024 ≤ length words
       → (ending_of q (end_in (line_taken q) (bytes_in (line_taken q) (unfilled words) input)) out scratch).text ≡ fill_text q input
   unfolding fill_end fill_limit
   program_text input words many =
@@ -172,7 +173,7 @@ module _ (q : ℕ) (out scratch : List ℕ) (wide : 4480 ≤ length out) (deep :
   pub whole_input :
       (input words : List ℕ) → 1024 ≤ length words → (k : Modulus) (was : Progress) → was ≡ begun k → (stored : List ℕ) (taken : Taken) → LinesTaken (line_taken q) (gathered was.intake words) input (gathered taken.intake stored) taken.used
       → (i : Intake) (ws : List ℕ) → gathered i ws ≡ last_in (line_taken q) (gathered taken.intake stored) (take (length input - taken.used) (drop taken.used input))
-      → (filled cleared text printed : List ℕ) (r : Put) → Ended q (gathered i ws) out filled scratch cleared text printed r
+      → (filled cleared text printed : List ℕ) (r : Option ℕ) → Ended q (gathered i ws) out filled scratch cleared text printed r
       → Putting text 0 (fill_text q input) r printed
   unfolding begun unfilled end_in piece
   whole_input input words many k was e stored taken lines i ws last filled cleared text printed r ended =
@@ -197,5 +198,8 @@ pieces_are_text k words buffer calls h stored out filled scratch cleared text pr
     let read = calls_read Gathered (line_taken q) (gathered untaken words) buffer calls h in
     let same = ap (λ (v : Piece Gathered). (ending_of q (end_in (line_taken q) v) out scratch).text) read ∙ program_text q out scratch lent.output lent.counts input words lent.rows in
     let put = put_text text 0 same (finished.ended.answer, finished.ended.bytes) in
-    let whole = put_whole text (fill_text q input) (omega (arith, fill_text_short q input, lent.bytes)) put in
-    record { answer = whole.0; bytes = whole.1 }
+    let fits : length (fill_text q input) ≤ length text = omega (arith, fill_text_short q input, lent.bytes) in
+    record {
+      answer = put.0 ∙ put_at_start (length text) (fill_text q input) fits;
+      bytes = ap (take (length (fill_text q input))) put.1 ∙ written_at_start text (fill_text q input) fits;
+    }

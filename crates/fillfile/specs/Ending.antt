@@ -1,17 +1,15 @@
 -- What is printed where the input ends, by what the filler's library leaves in the lent slices.
 -- Assumes nothing.
-use Rattle.std.specs.Prelude.{ℕ, zero, suc, ◌≡◌, cond, List, [], ◌∷◌, ◌++◌, eqb, length}
+use Rattle.std.specs.Prelude.{ℕ, zero, suc, ◌≡◌, cond, List, [], ◌∷◌, ◌++◌, eqb, length, Option, Result, Ok, Err}
 use Rattle.memory.specs.declared.Row.{Row}
 use Rattle.memory.specs.Step.{raise}
-use Rattle.runs.specs.Filler.{memory_code, Filling, fill_of}
+use Rattle.runs.specs.Filler.{Filling, Placed, fill_of}
+use Rattle.memory.specs.Names.{memory_code}
 use Rattle.memory.specs.Print.{filled_text, refusal_text}
 use Rattle.memory.specs.Pieces.{end_in}
 use Rattle.runs.specs.FillStream.{Gathered, line_taken, end_taken, due_words}
 use Rattle.pieces.specs.Calls.{Left, stands_for}
-use Rattle.filler.specs.declared.Filled.{Filled}
-use Rattle.filler.specs.declared.Filled.TheVariants.{Rows, Refused}
 use Rattle.filler.specs.Answer.{filled_of}
-use Rattle.text.specs.declared.Put.{Put}
 use Rattle.text.specs.Put.{put_of, written}
 use Rattle.print.specs.Rows.{row_in}
 
@@ -25,9 +23,9 @@ output_rows (suc k) ws = output_rows k ws ++ row_in ws k ∷ []
 -- where the caller lends fewer words than 4 for each row, or less output or scratch than 2n + 3T
 -- rows and words, and 4 where it hands on a size or count that no value line has. What holds then:
 -- the answer is printed on line 3, and output and scratch are as they were.
-unfoldable pub answer_text : Filled → List ℕ → List ℕ
-answer_text (Rows count) output = filled_text (output_rows count output)
-answer_text (Refused number place) output = refusal_text number (raise place 3)
+unfoldable pub answer_text : Result ℕ Placed → List ℕ → List ℕ
+answer_text (Ok count) output = filled_text (output_rows count output)
+answer_text (Err refused) output = refusal_text refused.number (raise refused.place 3)
 
 -- What is printed where the input ends, and the lent slices afterwards
 pub record Ending : Type 0 where
@@ -49,7 +47,7 @@ ending_of q g out scratch =
     (refused_with i.answer i.line out scratch)
 
 -- after the last line: what is printed, and the lent slices
-pub record Ended (q : ℕ) (g : Gathered) (out filled scratch cleared text printed : List ℕ) (r : Put) : Type 0 where
+pub record Ended (q : ℕ) (g : Gathered) (out filled scratch cleared text printed : List ℕ) (r : Option ℕ) : Type 0 where
   pub output : filled ≡ (ending_of q g out scratch).output
   pub scratch_words : cleared ≡ (ending_of q g out scratch).scratch
   pub answer : r ≡ put_of (length text) 0 (ending_of q g out scratch).text
@@ -60,6 +58,6 @@ unfoldable pub end_of : ℕ → Left Gathered → Gathered
 end_of q l = end_in (line_taken q) (stands_for l)
 
 -- The end of input: what is printed, and the lent slices
-pub record Finished (q : ℕ) (l : Left Gathered) (stored out filled scratch cleared text printed : List ℕ) (r : Put) : Type 0 where
+pub record Finished (q : ℕ) (l : Left Gathered) (stored out filled scratch cleared text printed : List ℕ) (r : Option ℕ) : Type 0 where
   pub rows : stored ≡ (end_of q l).words
   pub ended : Ended q (end_of q l) out filled scratch cleared text printed r

@@ -1,14 +1,13 @@
 -- What is shown of the functions that run: types only, over their contracts. Each is proved in the
 -- file and by the name in brackets.
 -- Assumes nothing.
-use Rattle.std.specs.Prelude.{ℕ, ◌+◌, ◌*◌, ◌≤◌, List, length}
+use Rattle.std.specs.Prelude.{ℕ, ◌+◌, ◌*◌, ◌≤◌, List, length, Option}
 use Rattle.field.specs.declared.moduli.Modulus.{Modulus}
 use Rattle.field.specs.Moduli.{modulus_of}
 use Rattle.runs.specs.Filler.{room}
 use Rattle.runs.specs.FillFile.{fill_limit, fill_text}
 use Rattle.runs.specs.FillStream.{Gathered, line_taken}
 use Rattle.pieces.specs.Calls.{Call, Calls, joined, last_left}
-use Rattle.text.specs.declared.Put.{Put}
 use Rattle.text.specs.Put.{Printed}
 use Rattle.fillfile.specs.Progress.{begun, left_by}
 use Rattle.fillfile.specs.Ending.{Finished}
@@ -28,6 +27,6 @@ pub record Lent (words out scratch text : List ℕ) : Type 0 where
 abbrev pub PiecesAreText : Type 0
 PiecesAreText =
     (k : Modulus) (words buffer : List ℕ) (calls : List (Call Gathered)) → Calls (line_taken (modulus_of k)) (left_by (begun k) words buffer) calls
-    → (stored out filled scratch cleared text printed : List ℕ) (r : Put) → Lent words out scratch text
+    → (stored out filled scratch cleared text printed : List ℕ) (r : Option ℕ) → Lent words out scratch text
     → Finished (modulus_of k) (last_left (left_by (begun k) words buffer) calls) stored out filled scratch cleared text printed r
     → Printed (fill_text (modulus_of k) (joined calls)) printed r

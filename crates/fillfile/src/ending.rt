@@ -1,65 +1,45 @@
 // The end of input: what the filler's library makes of the rows, and what is printed.
 ghost use Rattle.std.specs.Prelude.{◌≡◌, length};
 ghost use Rattle.field.specs.Moduli.{modulus_of};
-ghost use Rattle.runs.specs.Filler.{memory_code};
 ghost use Rattle.memory.specs.Print.{filled_text};
 ghost use Rattle.runs.specs.FillStream.{gathered};
 ghost use Rattle.text.specs.Put.{put_of, written};
+ghost use Rattle.filler.specs.Answer.{numbered_fill};
 ghost use Rattle.fillfile.specs.Ending.{output_rows, answer_text, Ended};
 
+use faults::Refused;
 use field::moduli::Modulus;
-use filler::Filled;
-use memory::Memory;
 use runs::Intake;
-use text::Put;
-
-// The number of a memory.
-fn code(memory: Memory) -> u32
-    ensures { result ≡ memory_code memory }
-{
-    match memory {
-        Memory::Ram => 0,
-        Memory::Rom => 1,
-        Memory::Set => 2,
-        Memory::Stack => 3,
-        Memory::Queue => 4,
-    }
-}
 
 // Puts the names line and the rows of the output.
-fn rows(text: &mut [u8], out: &[u64], count: usize) -> Put
+fn rows(text: &mut [u8], out: &[u64], count: usize) -> Option<usize>
     ensures answer { result ≡ put_of (length text.old) 0 (filled_text (output_rows count out.now)) }
     ensures slice { text.new ≡ written text.old 0 (filled_text (output_rows count out.now)) }
 {
-    let Put::At(at) = print::row_names(text, 0) else {
-        return Put::Full;
-    };
-    let mut at = at;
-    let mut k = 0;
-    while k < count {
-        let Put::At(next) = print::filled_row(text, at, out, k) else {
-            return Put::Full;
-        };
-        at = next;
-        k += 1;
+    let mut at = print::row_names(text, 0)?;
+    for k in 0..count {
+        at = print::filled_row(text, at, out, k)?;
     }
-    Put::At(at)
+    Some(at)
 }
 
 // Puts what the filler's library came to: the rows, or its refusal.
-fn answer(text: &mut [u8], out: &[u64], filled: Filled) -> Put
-    ensures answer { result ≡ put_of (length text.old) 0 (answer_text filled out.now) }
-    ensures slice { text.new ≡ written text.old 0 (answer_text filled out.now) }
+#[tactic(auto, unfolding(crate::specs::Ending::answer_text))]
+fn answer(text: &mut [u8], out: &[u64], filled: Result<usize, Refused>) -> Option<usize>
+    ensures answer { result ≡ put_of (length text.old) 0 (answer_text (numbered_fill filled) out.now) }
+    ensures slice { text.new ≡ written text.old 0 (answer_text (numbered_fill filled) out.now) }
 {
     match filled {
-        Filled::Rows(count) => rows(text, out, count),
-        Filled::Refused(number, place) => {
-            print::refusal(text, 0, number, intake::line_of(place))
+        Ok(count) => rows(text, out, count),
+        Err(refused) => {
+            let place = intake::line_of(refused.place);
+            print::refusal(text, 0, u32::from(refused.fault), place)
         }
     }
 }
 
 // What is printed after the last line: the fault, or what the filler's library makes of the rows.
+#[tactic(auto, unfolding(runs::specs::FillStream::rows_due))]
 pub fn finish(
     field: Modulus,
     intake: Intake,
@@ -67,18 +47,17 @@ pub fn finish(
     out: &mut [u64],
     scratch: &mut [u64],
     text: &mut [u8],
-) -> Put
+) -> Option<usize>
     ensures { Ended (modulus_of field) (gathered intake words.now) out.old out.new scratch.old scratch.new text.old text.new result }
 {
     let intake = intake::ended(intake);
     if intake.answer != 0 {
         return print::refusal(text, 0, intake.answer, intake.line);
     }
-    let end = decimal::smaller(4 * intake::due(intake), words.len());
-    let memory = intake.memory;
+    let end = (4 * intake::due(intake)).min(words.len());
     let filled = filler::fill(
         field,
-        code(memory),
+        u32::from(intake.memory),
         intake.size,
         intake.count,
         &words[..end],

@@ -6,7 +6,6 @@
 
 use field::moduli::Modulus;
 use runs::Intake;
-use text::Put;
 
 mod ending;
 
@@ -35,7 +34,7 @@ pub const TEXT: usize = 85797;
 
 // Between two pieces of the input: the modulus that it is filled for, what its lines left, and how
 // many bytes of the line that is being read stand at the front of the caller's buffer. The caller
-// puts the bytes that follow behind them.
+// puts the bytes that follow behind them: the buffer is lent, and memory is constant.
 #[derive(Clone, Copy)]
 pub struct Progress {
     pub field: Modulus,
@@ -44,6 +43,7 @@ pub struct Progress {
 }
 
 // Before the first byte.
+#[tactic(auto, unfolding(crate::specs::Progress::begun, runs::specs::FillStream::untaken))]
 pub fn start(field: Modulus) -> Progress
     ensures progress { result ≡ begun field }
     ensures field { result.field ≡ field }
@@ -72,7 +72,7 @@ pub fn advance(progress: Progress, buf: &mut [u8], filled: usize, words: &mut [u
     ensures field { result.field ≡ progress.field }
 {
     let field = progress.field;
-    let end = decimal::smaller(filled, buf.len());
+    let end = filled.min(buf.len());
     let taken = intake::lines_in(field, progress.intake, &buf[..end], words);
     let used = taken.used;
     let intake = taken.intake;
@@ -95,17 +95,17 @@ pub fn finish(
     out: &mut [u64],
     scratch: &mut [u64],
     text: &mut [u8],
-) -> Put
+) -> Option<usize>
     ensures { Finished (modulus_of progress.field) (left_by progress words.old buf.now) words.new out.old out.new scratch.old scratch.new text.old text.new result }
 {
     let field = progress.field;
-    let end = decimal::smaller(progress.kept, buf.len());
+    let end = progress.kept.min(buf.len());
     let intake = intake::last(field, progress.intake, &buf[..end], words);
     ending::finish(field, intake, &words[..], out, scratch, text)
 }
 
 // What is printed for a whole input; the program prints that modulo p.
-pub fn fill_file(field: Modulus, input: &[u8], text: &mut [u8]) -> Put
+pub fn fill_file(field: Modulus, input: &[u8], text: &mut [u8]) -> Option<usize>
     ensures answer { result ≡ put_of (length text.old) 0 (fill_text (modulus_of field) input.now) }
     ensures slice { text.new ≡ written text.old 0 (fill_text (modulus_of field) input.now) }
 {
@@ -120,10 +120,11 @@ pub fn fill_file(field: Modulus, input: &[u8], text: &mut [u8]) -> Put
 }
 
 // The same with a text of as many bytes as `fill` lends: it always has room for it.
-pub fn fill_whole(field: Modulus, input: &[u8], text: &mut [u8; TEXT]) -> Put
+#[tactic(auto, using(text::proofs::Written::put_at_start, runs::proofs::FillLength::fill_text_short))]
+pub fn fill_whole(field: Modulus, input: &[u8], text: &mut [u8; TEXT]) -> Option<usize>
     ensures answer { result ≡ put_of (length text.old) 0 (fill_text (modulus_of field) input.now) }
     ensures slice { text.new ≡ written text.old 0 (fill_text (modulus_of field) input.now) }
-    ensures room { result ≡ Put.At (length (fill_text (modulus_of field) input.now)) }
+    ensures room { result ≡ Some (length (fill_text (modulus_of field) input.now)) }
     ensures many { length text.new ≡ length text.old }
 {
     fill_file(field, input, text)

@@ -7,6 +7,7 @@ ghost use Rattle.memory.specs.Gates.{row_inputs, row_mults};
 use memory::{Memory, Op};
 
 // The inputs of a row.
+#[tactic(auto, unfolding(memory::specs::Gates::row_inputs, memory::specs::Rows::used, memory::specs::Rows::columns, algebra::specs::Sum::bit))]
 pub fn inputs(memory: Memory, op: Op) -> u32
     ensures { result ≡ row_inputs memory op }
 {
@@ -20,11 +21,8 @@ pub fn inputs(memory: Memory, op: Op) -> u32
         Op::Enqueue => 0,
         Op::Dequeue => 1,
         Op::End => match memory {
-            Memory::Ram => 2,
-            Memory::Rom => 1,
-            Memory::Set => 1,
-            Memory::Stack => 2,
-            Memory::Queue => 1,
+            Memory::Ram | Memory::Stack => 2,
+            Memory::Rom | Memory::Set | Memory::Queue => 1,
         },
         Op::Range => 1,
         Op::Other => 0,
@@ -32,6 +30,7 @@ pub fn inputs(memory: Memory, op: Op) -> u32
 }
 
 // The multiplications of a row: its factors, choices by a guard, hash steps and depth steps.
+#[tactic(auto, unfolding(memory::specs::Gates::costs, memory::specs::Gates::row_costs, memory::specs::Gates::row_mults))]
 pub fn mults(memory: Memory, op: Op) -> u32
     ensures { result ≡ row_mults memory op }
 {
@@ -44,14 +43,7 @@ pub fn mults(memory: Memory, op: Op) -> u32
         Op::Pop => 3 + 1,
         Op::Enqueue => 1 + 1,
         Op::Dequeue => 1 + 1 + 1,
-        Op::End => match memory {
-            Memory::Ram => 1,
-            Memory::Rom => 1,
-            Memory::Set => 1,
-            Memory::Stack => 1,
-            Memory::Queue => 1,
-        },
-        Op::Range => 1,
+        Op::End | Op::Range => 1,
         Op::Other => 0,
     }
 }

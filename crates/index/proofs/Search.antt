@@ -1,5 +1,7 @@
 -- A search in the tree over values finds the first place of what it looks for.
+--     child_some      what a child is as an option
 --     walked_met, walked_end, walked_on   a step of a search
+--     way_begins, way_met, way_ended, way_further     a search that is on its way
 --     stop_low        a search ends at a node that was put in
 --     stop_none       where it does not find its value there is no child
 --     detoured        what a node more changes: a search that ended where it was put goes on to it
@@ -16,11 +18,12 @@ use mathlib.Core.List.{List, [], ◌∷◌}
 use lib.Dec.{eqb, ltb}
 use lib.ListN.{length, get_or, set, take, replicate, length-set, length-replicate}
 use lib.Seq.{take-length, get_or-set_same, get_or-set_other}
-use borrow.Author.Tests.{eq-eqb, ne_eqb, lt-ltb, le-ltb, ltb-true}
+use borrow.Author.Tests.{eq-eqb, ne_eqb, eqb-true, eqb-false, lt-ltb, ltb-true}
+use Rattle.std.specs.Prelude.{None, Some}
 use Rattle.memory.specs.Rows.{limit}
 use Rattle.index.specs.declared.Stop.{Stop}
 use Rattle.index.specs.Values.{first_at}
-use Rattle.index.specs.Tree.{side_of, joined, child_at, stop_at, walked, stop_of, found, inserted, grown_from, grown}
+use Rattle.index.specs.Tree.{side_of, joined, child_at, child_of, stop_at, walked, stop_of, found, inserted, grown_from, grown}
 use Rattle.index.specs.Statements.{SearchFindsFirst}
 use Rattle.index.proofs.Places.{first_here, first_later, first_kept, first_met, first_absent}
 use Rattle.index.proofs.Sides.{side_put, side_kept, side_none, side_same}
@@ -28,32 +31,18 @@ use Rattle.index.proofs.Sides.{side_put, side_kept, side_none, side_same}
 -- ---- a child
 
 -- by the child in the node's word
-pub child_is : (n : ℕ) (links : List ℕ) (node key c : ℕ) → side_of key (get_or links node 0) ≡ c → node < c → c < n → child_at n links node key ≡ c
+child_is : (n : ℕ) (links : List ℕ) (node key c : ℕ) → side_of key (get_or links node 0) ≡ c → node < c → c < n → child_at n links node key ≡ c
 unfolding child_at
 child_is n links node key c e above below =
     ap (λ (x : ℕ). cond (ltb node x && ltb x n) x 0) e
     ∙ ap (λ (b : Bool). cond (b && ltb c n) c 0) (lt-ltb node c above)
     ∙ ap (λ (b : Bool). cond b c 0) (lt-ltb c n below)
 
-pub child_low : (n : ℕ) (links : List ℕ) (node key c : ℕ) → side_of key (get_or links node 0) ≡ c → c ≤ node → child_at n links node key ≡ 0
-unfolding child_at
-child_low n links node key c e h =
-    ap (λ (x : ℕ). cond (ltb node x && ltb x n) x 0) e ∙ ap (λ (b : Bool). cond (b && ltb c n) c 0) (le-ltb node c h)
-
-pub child_high : (n : ℕ) (links : List ℕ) (node key c : ℕ) → side_of key (get_or links node 0) ≡ c → n ≤ c → child_at n links node key ≡ 0
-unfolding child_at
-child_high n links node key c e h =
-    ap (λ (x : ℕ). cond (ltb node x && ltb x n) x 0) e ∙ ap (λ (b : Bool). cond (ltb node c && b) c 0) (le-ltb c n h) ∙ go (ltb node c)
-  where
-    go : (b : Bool) → cond (b && false) c 0 ≡ 0
-    go true = refl
-    go false = refl
-
 child_as : (n : ℕ) (links links' : List ℕ) (node key key' : ℕ) → side_of key (get_or links node 0) ≡ side_of key' (get_or links' node 0) → child_at n links node key ≡ child_at n links' node key'
 unfolding child_at
 child_as n links links' node key key' e = ap (λ (x : ℕ). cond (ltb node x && ltb x n) x 0) e
 
-pub child_range : (n : ℕ) (links : List ℕ) (node key : ℕ) → (child_at n links node key ≡ 0 → ⊥) → (node < child_at n links node key) × (child_at n links node key < n)
+child_range : (n : ℕ) (links : List ℕ) (node key : ℕ) → (child_at n links node key ≡ 0 → ⊥) → (node < child_at n links node key) × (child_at n links node key < n)
 unfolding child_at
 child_range n links node key = go (ltb node c) (ltb c n) refl refl
   where
@@ -65,19 +54,39 @@ child_range n links node key = go (ltb node c) (ltb c n) refl refl
     go true false p q h = absurd (h refl)
     go false d p q h = absurd (h refl)
 
+-- the child as an option
+module _ (n : ℕ) (links : List ℕ) (node key : ℕ) where
+  child_none : None ≡ child_of n links node key → child_at n links node key ≡ 0
+  child_none = go (eqb (child_at n links node key) 0) refl
+    where
+      go : (b : Bool) → eqb (child_at n links node key) 0 ≡ b → None ≡ cond b None (Some (child_at n links node key)) → child_at n links node key ≡ 0
+      go true p e = eqb-true _ _ p
+      go false p e = cc
+
+  pub child_some : (next : ℕ) → Some next ≡ child_of n links node key → (child_at n links node key ≡ next) × (node < next) × (next < n)
+  child_some next = go (eqb (child_at n links node key) 0) refl
+    where
+      go : (b : Bool) → eqb (child_at n links node key) 0 ≡ b → Some next ≡ cond b None (Some (child_at n links node key))
+          → (child_at n links node key ≡ next) × (node < next) × (next < n)
+      go true p e = absurd (cc)
+      go false p e =
+          let r = child_range n links node key (eqb-false _ _ p) in
+          let is : child_at n links node key ≡ next = cc in
+          (is, omega arith, omega arith)
+
 -- ---- a step of a search
 
 module _ (values links : List ℕ) (x : ℕ) where
   abbrev next : ℕ → ℕ → ℕ
   next node key = child_at (length values) links node key
 
-  pub walked_met : (f key node : ℕ) → get_or values node 0 ≡ x → walked f values links x key node ≡ stop_at node key
+  walked_met : (f key node : ℕ) → get_or values node 0 ≡ x → walked f values links x key node ≡ stop_at node key
   unfolding walked
   walked_met zero key node e = refl
   walked_met (suc f) key node e =
       ap (λ (b : Bool). cond b (stop_at node key) (cond (eqb (next node key) 0) (stop_at node key) (walked f values links x (key / 2) (next node key)))) (eq-eqb _ _ e)
 
-  pub walked_end : (f key node : ℕ) → next node key ≡ 0 → walked f values links x key node ≡ stop_at node key
+  walked_end : (f key node : ℕ) → next node key ≡ 0 → walked f values links x key node ≡ stop_at node key
   unfolding walked
   walked_end zero key node e = refl
   walked_end (suc f) key node e =
@@ -88,14 +97,14 @@ module _ (values links : List ℕ) (x : ℕ) where
       both true = refl
       both false = refl
 
-  pub walked_on : (f key node : ℕ) → (get_or values node 0 ≡ x → ⊥) → (next node key ≡ 0 → ⊥) → walked (suc f) values links x key node ≡ walked f values links x (key / 2) (next node key)
+  walked_on : (f key node : ℕ) → (get_or values node 0 ≡ x → ⊥) → (next node key ≡ 0 → ⊥) → walked (suc f) values links x key node ≡ walked f values links x (key / 2) (next node key)
   unfolding walked
   walked_on f key node n m =
       ap (λ (b : Bool). cond b (stop_at node key) (cond (eqb (next node key) 0) (stop_at node key) (walked f values links x (key / 2) (next node key)))) (ne_eqb _ _ n)
       ∙ ap (λ (b : Bool). cond b (stop_at node key) (walked f values links x (key / 2) (next node key))) (ne_eqb _ _ m)
 
   -- a property of every node on the way
-  pub stop_low : (k : ℕ) → ((node key : ℕ) → next node key < k) → (f key node : ℕ) → node < k → (walked f values links x key node).node < k
+  stop_low : (k : ℕ) → ((node key : ℕ) → next node key < k) → (f key node : ℕ) → node < k → (walked f values links x key node).node < k
   unfolding walked stop_at
   stop_low k bound zero key node h = h
   stop_low k bound (suc f) key node h = go (eqb (get_or values node 0) x) (eqb (next node key) 0) (stop_low k bound f (key / 2) (next node key) (bound node key))
@@ -106,7 +115,7 @@ module _ (values links : List ℕ) (x : ℕ) where
       go false true ih = h
       go false false ih = ih
 
-  pub stop_none : (f key node : ℕ) → node < length values → length values ≤ f + node
+  stop_none : (f key node : ℕ) → node < length values → length values ≤ f + node
       → let s = walked f values links x key node in (get_or values s.node 0 ≡ x → ⊥) → next s.node s.key ≡ 0
   unfolding stop_at
   stop_none zero key node low fuel = absurd (omega arith)
@@ -123,6 +132,37 @@ module _ (values links : List ℕ) (x : ℕ) where
       go (no n) (no m) ih =
           let r = child_range (length values) links node key m in
           subst P (sym (walked_on f key node n m)) (ih r.1 (omega arith))
+
+-- the search from the root is that from a node on the way, with steps enough left
+pub record OnTheWay (values links : List ℕ) (x node key : ℕ) : Type 0 where
+  pub left : ℕ
+  pub enough : length values ≤ left + node
+  pub same : stop_of x values links ≡ walked left values links x key node
+
+pub way_begins : (values links : List ℕ) (x : ℕ) → OnTheWay values links x 0 x
+unfolding stop_of
+way_begins values links x = record { left = length values; enough = omega arith; same = refl }
+
+pub way_met : (values links : List ℕ) (x node key : ℕ) → OnTheWay values links x node key → get_or values node 0 ≡ x → record { node = node; key = key } ≡ stop_of x values links
+unfolding stop_at
+way_met values links x node key way e = sym (way.same ∙ walked_met values links x way.left key node e)
+
+pub way_ended : (values links : List ℕ) (x node key : ℕ) → OnTheWay values links x node key → None ≡ child_of (length values) links node key → record { node = node; key = key } ≡ stop_of x values links
+unfolding stop_at
+way_ended values links x node key way e =
+    sym (way.same ∙ walked_end values links x way.left key node (child_none (length values) links node key e))
+
+pub way_further : (values links : List ℕ) (x node key next : ℕ) → OnTheWay values links x node key → (get_or values node 0 ≡ x → ⊥) → Some next ≡ child_of (length values) links node key → OnTheWay values links x next (key / 2)
+way_further values links x node key next way other e = go way.left way.enough way.same
+  where
+    child : (child_at (length values) links node key ≡ next) × (node < next) × (next < length values)
+    child = child_some (length values) links node key next e
+
+    go : (left : ℕ) → length values ≤ left + node → stop_of x values links ≡ walked left values links x key node → OnTheWay values links x next (key / 2)
+    go zero enough same = let r = child in absurd (omega arith)
+    go (suc f) enough same =
+        let r = child in
+        record { left = f; enough = omega arith; same = same ∙ walked_on values links x f key node other (λ z. omega arith) ∙ ap (walked f values links x (key / 2)) r.0 }
 
 -- ---- a node more
 

@@ -3,9 +3,18 @@
 -- search goes left where its key is even and right where it is odd, and halves the key.
 -- What stands in a word above the two children is not looked at.
 -- Assumes nothing.
-use Rattle.std.specs.Prelude.{ℕ, zero, suc, ◌+◌, ◌-◌, ◌*◌, ◌/◌, ◌%◌, ◌≤◌, ◌<◌, ◌&&◌, cond, List, eqb, ltb, length, get_or, set}
+use Rattle.std.specs.Prelude.{ℕ, zero, suc, ◌+◌, ◌-◌, ◌*◌, ◌/◌, ◌%◌, ◌&&◌, cond, List, eqb, ltb, length, get_or, set}
+use Rattle.std.specs.Prelude.{Option, None, Some}
 use Rattle.memory.specs.Rows.{limit}
 use Rattle.index.specs.declared.Stop.{Stop}
+use Rattle.index.specs.declared.Children.{Children}
+
+-- the two children in a word, and the word of two children
+abbrev pub children_in : ℕ → Children
+children_in word = record { left = word / limit % limit; right = word % limit }
+
+abbrev pub word_of : Children → ℕ
+word_of c = c.left % limit * limit + c.right % limit
 
 -- the child in a word on the side that a key names, and a word with node k put on that side
 unfoldable pub side_of : ℕ → ℕ → ℕ
@@ -21,6 +30,10 @@ unfoldable pub child_at : ℕ → List ℕ → ℕ → ℕ → ℕ
 child_at n links node key =
     let c = side_of key (get_or links node 0) in
     cond (ltb node c && ltb c n) c 0
+
+-- the same as an option
+abbrev pub child_of : ℕ → List ℕ → ℕ → ℕ → Option ℕ
+child_of n links node key = cond (eqb (child_at n links node key) 0) None (Some (child_at n links node key))
 
 unfoldable pub stop_at : ℕ → ℕ → Stop
 stop_at node key = record { node = node; key = key }
@@ -44,6 +57,10 @@ found x values links =
     let s = stop_of x values links in
     cond (eqb (get_or values s.node 0) x) s.node (length values)
 
+-- the place as an option, which is none where there is no such value
+abbrev pub found_at : ℕ → List ℕ → List ℕ → Option ℕ
+found_at x values links = cond (ltb (found x values links) (length values)) (Some (found x values links)) None
+
 -- node k is put where the search for its value ends, unless an earlier node holds that value
 unfoldable pub inserted : List ℕ → List ℕ → ℕ → List ℕ
 inserted values links k =
@@ -58,9 +75,3 @@ grown_from values k (suc c) links = grown_from values (suc k) c (inserted values
 
 unfoldable pub grown : List ℕ → List ℕ → List ℕ
 grown values links = grown_from values 1 (length values - 1) links
-
--- a slice holds n rows, and at least one
-pub record Rows (n : ℕ) (inits : List ℕ) : Type 0 where
-  pub some : 0 < n
-  pub held : 4 * n ≤ length inits
-  pub whole : length inits < 4 * n + 4

@@ -1,11 +1,12 @@
 // The place of the first element of a set that equals a value: "equal set elements give all lookups
-// to the first". A digital search tree over the init values, of one word an element, finds it. The
-// elements are values of init rows in a slice, 4 words a row.
+// to the first". A digital search tree over the init values, of one word an element, finds it: its
+// nodes are places in lent scratch words, since nothing is allocated. The elements are values of
+// init rows in a slice, 4 words a row.
 #![tactic(auto)]
 
-ghost use Rattle.std.specs.Prelude.{◌≡◌, ◌+◌, ◌*◌, ◌<◌};
+ghost use Rattle.std.specs.Prelude.{◌≡◌};
 ghost use Rattle.index.specs.Values.{values_in};
-ghost use Rattle.index.specs.Tree.{Rows, side_of, joined, child_at, stop_of, found, inserted, grown};
+ghost use Rattle.index.specs.Tree.{children_in, word_of, side_of, joined, child_at, child_of, stop_of, found_at, inserted, grown};
 
 // Where a search ends: the node, and what is left of the key there.
 #[derive(Clone, Copy)]
@@ -17,104 +18,135 @@ pub(crate) struct Stop {
 // Two nodes below this fit a word.
 const LIMIT: u64 = 65536;
 
+// The two children in a word.
+#[derive(Clone, Copy)]
+struct Children {
+    left: usize,
+    right: usize,
+}
+
+impl From<u64> for Children {
+    ghost from_gives = { λ word children. children ≡ children_in word };
+
+    #[tactic(auto, unfolding(memory::specs::Rows::limit))]
+    fn from(word: u64) -> Children {
+        Children {
+            left: (word / LIMIT % LIMIT) as usize,
+            right: (word % LIMIT) as usize,
+        }
+    }
+}
+
+impl From<Children> for u64 {
+    ghost from_gives = { λ children word. word ≡ word_of children };
+
+    #[tactic(auto, unfolding(memory::specs::Rows::limit))]
+    fn from(children: Children) -> u64 {
+        children.left as u64 % LIMIT * LIMIT + children.right as u64 % LIMIT
+    }
+}
+
 // The child in a word on the side that a key names.
+#[tactic(auto, unfolding(crate::specs::Tree::side_of))]
 fn side(key: u64, word: u64) -> usize
     ensures { result ≡ side_of key word }
 {
-    if key % 2 == 0 {
-        (word / LIMIT % LIMIT) as usize
-    } else {
-        (word % LIMIT) as usize
-    }
+    let Children { left, right } = Children::from(word);
+    if key % 2 == 0 { left } else { right }
 }
 
 // A word with a node put on that side.
+#[tactic(auto, unfolding(crate::specs::Tree::joined, memory::specs::Rows::limit))]
 fn join(key: u64, word: u64, node: usize) -> u64
     ensures { result ≡ joined key word node }
 {
-    let low = (node % LIMIT as usize) as u64;
+    let children = Children::from(word);
     if key % 2 == 0 {
-        low * LIMIT + word % LIMIT
+        u64::from(Children {
+            left: node,
+            ..children
+        })
     } else {
-        word / LIMIT % LIMIT * LIMIT + low
+        u64::from(Children {
+            right: node,
+            ..children
+        })
     }
 }
 
-// The child of a node among n nodes on the side that a key names, or 0.
-fn child(n: usize, links: &[u64], node: usize, key: u64) -> usize
-    ensures { result ≡ child_at n links.now node key }
+// The child of a node among n nodes on the side that a key names.
+#[tactic(auto, unfolding(crate::specs::Tree::child_at))]
+fn child(n: usize, links: &[u64], node: usize, key: u64) -> Option<usize>
+    ensures { result ≡ child_of n links.now node key }
 {
     let next = side(key, words::word(links, node));
-    if next <= node {
-        return 0;
+    if node < next && next < n {
+        Some(next)
+    } else {
+        None
     }
-    if n <= next {
-        return 0;
-    }
-    next
 }
 
-// The search for a value.
-fn walk(n: usize, inits: &[u64], links: &[u64], value: u64) -> Stop
-    requires { Rows n inits.now }
-    ensures stop { result ≡ stop_of value (values_in inits.now) links.now }
-    ensures inside { result.node < n }
-{
-    let mut node = 0;
-    let mut key = value;
-    while inits[4 * node + 3] != value {
-        let next = child(n, links, node, key);
-        if next == 0 {
-            return Stop { node, key };
+// What a set's elements are looked up in: the rows that have them, and the links of the nodes.
+#[derive(Clone, Copy)]
+pub struct Tree<'a> {
+    pub inits: &'a [u64],
+    pub links: &'a [u64],
+}
+
+impl<'a> Tree<'a> {
+    // The search for a value. It follows links, and has nothing to count or to iterate over.
+    fn walk(self, value: u64) -> Stop
+        ensures { result ≡ stop_of value (values_in self.entry.inits.now) self.entry.links.now }
+    {
+        let n = self.inits.len() / 4;
+        let mut node = 0;
+        let mut key = value;
+        while words::value(self.inits, node) != value {
+            let Some(next) = child(n, self.links, node, key) else {
+                return Stop { node, key };
+            };
+            node = next;
+            key = key / 2;
         }
-        node = next;
-        key = key / 2;
+        Stop { node, key }
     }
-    Stop { node, key }
+
+    // The place that the tree gives of a value.
+    pub fn find(self, value: u64) -> Option<usize>
+        ensures { result ≡ found_at value (values_in self.entry.inits.now) self.entry.links.now }
+    {
+        let n = self.inits.len() / 4;
+        let stop = self.walk(value);
+        let node = stop.node;
+        if node < n && words::value(self.inits, node) == value {
+            Some(node)
+        } else {
+            None
+        }
+    }
 }
 
 // Node k is put where the search for its value ends, unless an earlier node has that value.
-fn insert(n: usize, k: usize, inits: &[u64], links: &mut [u64])
-    requires rows { Rows n inits.now }
-    requires node { k < n }
+#[tactic(auto, unfolding(crate::specs::Tree::inserted), using(crate::proofs::Values::values_at))]
+fn insert(k: usize, inits: &[u64], links: &mut [u64])
     ensures { links.new ≡ inserted (values_in inits.now) links.old k }
 {
-    let value = inits[4 * k + 3];
-    let stop = walk(n, inits, links, value);
-    let node = stop.node;
-    if inits[4 * node + 3] == value {
-        return;
-    }
-    if node < links.len() {
-        links[node] = join(stop.key, links[node], k);
+    let value = words::value(inits, k);
+    let stop = Tree { inits, links }.walk(value);
+    if words::value(inits, stop.node) != value {
+        let word = words::word(links, stop.node);
+        words::store(links, stop.node, join(stop.key, word, k));
     }
 }
 
 // The tree over all elements, where the words lent are 0.
+#[tactic(auto, unfolding(crate::specs::Tree::grown), using(crate::proofs::Values::values_many, crate::proofs::Insertion::grown_next, crate::proofs::Insertion::grown_done))]
 pub fn grow(inits: &[u64], links: &mut [u64])
     ensures { links.new ≡ grown (values_in inits.now) links.old }
 {
     let n = inits.len() / 4;
-    let mut k = 1;
-    while k < n {
-        insert(n, k, inits, links);
-        k += 1;
-    }
-}
-
-// The place that the tree gives of a value, or how many elements there are.
-pub fn find(inits: &[u64], links: &[u64], value: u64) -> usize
-    ensures { result ≡ found value (values_in inits.now) links.now }
-{
-    let n = inits.len() / 4;
-    if n == 0 {
-        return 0;
-    }
-    let stop = walk(n, inits, links, value);
-    let node = stop.node;
-    if inits[4 * node + 3] == value {
-        node
-    } else {
-        n
+    for k in 1..n {
+        insert(k, inits, links);
     }
 }

@@ -3,7 +3,10 @@
 #![tactic(auto)]
 
 use field::moduli::Modulus;
-use memory::{HEAD_LINES, numbers};
+use fields::written::Written;
+use memory::HEAD_LINES;
+use memory::faults::Fault;
+use rules::counters;
 use runs::Intake;
 
 mod line;
@@ -17,6 +20,7 @@ ghost use Rattle.runs.specs.FillStream.{gathered, rows_due, line_taken, end_take
 ghost use Rattle.pieces.specs.Block.{LinesTaken};
 
 // How many rows are due.
+#[tactic(auto, unfolding(runs::specs::FillStream::rows_due))]
 pub fn due(intake: Intake) -> usize
     ensures { result ≡ rows_due intake }
 {
@@ -24,14 +28,11 @@ pub fn due(intake: Intake) -> usize
 }
 
 // "row k being line k + 3"
+#[tactic(auto, unfolding(memory::specs::Step::top, memory::specs::Step::raise))]
 pub fn line_of(place: usize) -> u32
     ensures { result ≡ raise place head_lines }
 {
-    if place < (u32::MAX - HEAD_LINES) as usize {
-        place as u32 + HEAD_LINES
-    } else {
-        u32::MAX
-    }
+    counters::raise(HEAD_LINES, place as u64)
 }
 
 // Between two lines of a block, of which some bytes are used.
@@ -41,14 +42,20 @@ pub struct Taken {
     pub used: usize,
 }
 
-// Every whole line of a block, each as a part of the block.
+// Every whole line of a block, each as a part of the block: from one line feed to the next, so that
+// nothing is counted. The loop stands in crates stream and intake: as one loop over a trait it
+// proves, but `check` then executes 6 % more instructions.
 pub fn lines_in(field: Modulus, mut intake: Intake, block: &[u8], words: &mut [u64]) -> Taken
     ensures { LinesTaken (line_taken (modulus_of field)) (gathered intake words.old) block.now (gathered result.intake words.new) result.used }
 {
     let mut used = 0;
     let mut at = pieces::feed_from(block, used);
     while at < block.len() {
-        intake = line::line(field, intake, &block[used..at], true, words);
+        let written = Written {
+            text: &block[used..at],
+            ended: true,
+        };
+        intake = line::line(field, intake, &written, words);
         used = at + 1;
         at = pieces::feed_from(block, used);
     }
@@ -56,16 +63,22 @@ pub fn lines_in(field: Modulus, mut intake: Intake, block: &[u8], words: &mut [u
 }
 
 // The last line: one without its line feed is a line all the same.
+#[tactic(auto, using(pieces::proofs::Calls::last_none, pieces::proofs::Calls::last_some))]
 pub fn last(field: Modulus, intake: Intake, rest: &[u8], words: &mut [u64]) -> Intake
     ensures { gathered result words.new ≡ last_in (line_taken (modulus_of field)) (gathered intake words.old) rest.now }
 {
     if rest.len() == 0 {
         return intake;
     }
-    line::line(field, intake, rest, false, words)
+    let written = Written {
+        text: rest,
+        ended: false,
+    };
+    line::line(field, intake, &written, words)
 }
 
 // Where the lines end: 1 for an empty input, 7 for a missing line 2 or 3 and for a missing row.
+#[tactic(auto, unfolding(runs::specs::FillStream::end_taken, runs::specs::FillStream::end_fault))]
 pub fn ended(intake: Intake) -> Intake
     ensures { result ≡ end_taken intake }
 {
@@ -74,12 +87,12 @@ pub fn ended(intake: Intake) -> Intake
     }
     let place = intake.place;
     match place {
-        1 => line::refuse(intake, numbers::NOT_NAMES, 1),
-        2 => line::refuse(intake, numbers::NOT_COMPLETE, 2),
-        3 => line::refuse(intake, numbers::NOT_COMPLETE, 3),
+        1 => line::refuse(intake, u32::from(Fault::NotNames), 1),
+        2 => line::refuse(intake, u32::from(Fault::NotComplete), 2),
+        3 => line::refuse(intake, u32::from(Fault::NotComplete), 3),
         _ => {
             if (intake.passed as usize) < due(intake) {
-                line::refuse_row(intake, numbers::NOT_COMPLETE)
+                line::refuse_row(intake, u32::from(Fault::NotComplete))
             } else {
                 intake
             }

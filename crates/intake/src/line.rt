@@ -1,30 +1,36 @@
 // One whole line of the filling program's input: line 1, the value line, line 3, and the rows.
-ghost use Rattle.std.specs.Prelude.{◌≡◌, ◌<◌};
+ghost use Rattle.std.specs.Prelude.{◌≡◌, ◌<◌, Ok};
 ghost use Rattle.field.specs.Moduli.{modulus_of};
+ghost use Rattle.memory.specs.Faults.{fault_of};
 ghost use Rattle.memory.specs.File.{first_line};
 ghost use Rattle.runs.specs.FillFile.{parse_job, input_line_fault};
-ghost use Rattle.runs.specs.FillStream.{gathered, refuse_on, job_taken, refuse_row, input_taken, row_taken, line_taken};
-ghost use Rattle.intake.specs.Words.{stored_words, given_row};
-ghost use Rattle.intake.specs.Answers.{named_taken, task_fault, given_fault};
+ghost use Rattle.runs.specs.FillStream.{gathered, refuse_on, names_taken, job_taken, refuse_row, input_taken, row_taken, line_taken, stored_at};
+ghost use Rattle.runs.specs.Given.{given_input};
+ghost use Rattle.fields.specs.Written.{as_line};
+ghost use Rattle.fill_lines.specs.Answers.{given_of};
 
 use super::due;
 use field::moduli::Modulus;
-use fill_lines::{Given, Task};
-use lines::Named;
-use memory::{FIRST_LINE, Op, Phase, numbers};
-use rules::{counters, ops};
-use runs::Intake;
+use fields::written::Written;
+use memory::faults::{Fault, number};
+use memory::{FIRST_LINE, Phase};
+use rules::counters;
+use runs::{Given, Intake};
 
 // A fault on a line.
-pub fn refuse(mut intake: Intake, answer: u32, line: u32) -> Intake
+#[tactic(auto, unfolding(runs::specs::FillStream::refuse_on))]
+pub fn refuse(intake: Intake, answer: u32, line: u32) -> Intake
     ensures { result ≡ refuse_on intake answer line }
 {
-    intake.answer = answer;
-    intake.line = line;
-    intake
+    Intake {
+        answer,
+        line,
+        ..intake
+    }
 }
 
 // A fault of the next row, which stands on line passed + 4.
+#[tactic(auto, unfolding(runs::specs::FillStream::refuse_row))]
 pub fn refuse_row(intake: Intake, answer: u32) -> Intake
     ensures { result ≡ refuse_row intake answer }
 {
@@ -33,45 +39,34 @@ pub fn refuse_row(intake: Intake, answer: u32) -> Intake
 }
 
 // A names line by what it reads as.
-fn named(mut intake: Intake, place: u32, read: Named) -> Intake
+#[tactic(auto, unfolding(runs::specs::FillStream::names_taken, runs::specs::FillStream::move_to))]
+fn named(intake: Intake, place: u32, read: Result<(), Fault>) -> Intake
     requires { place < first_line }
-    ensures { result ≡ named_taken intake place read }
+    ensures { result ≡ names_taken intake place (fault_of read) }
 {
-    let Named::Names = read else {
-        return refuse(intake, lines::names_number(read), place);
+    let Ok(()) = read else {
+        return refuse(intake, number(&read), place);
     };
-    intake.place = place + 1;
-    intake
-}
-
-// The number of a value line that is refused, 2, 3 or 4; 0 of any other.
-fn task_fault(task: Task) -> u32
-    ensures { result ≡ task_fault task }
-{
-    match task {
-        Task::Fill { .. } => 0,
-        Task::Fault(fault) => fault,
+    Intake {
+        place: place + 1,
+        ..intake
     }
 }
 
 // The value line: its values, or refused with its number on line 2.
-fn opened(field: Modulus, intake: Intake, text: &[u8], ended: bool) -> Intake
-    ensures { result ≡ job_taken intake (parse_job (modulus_of field) (record { text = text.now; ended = ended })) }
+#[tactic(auto, unfolding(runs::specs::FillStream::job_taken, fill_lines::specs::Answers::task_of))]
+fn opened(field: Modulus, intake: Intake, line: &Written) -> Intake
+    ensures { result ≡ job_taken intake (parse_job (modulus_of field) (as_line line.now)) }
 {
-    let read = fill_lines::job_line(field, text, ended);
-    let Task::Fill {
-        memory,
-        size,
-        count,
-    } = read
-    else {
-        return refuse(intake, task_fault(read), 2);
+    let read = fill_lines::job_line(field, line);
+    let Ok(job) = read else {
+        return refuse(intake, number(&read), 2);
     };
     Intake {
         place: 3,
-        memory,
-        size,
-        count,
+        memory: job.memory,
+        size: job.size,
+        count: job.count,
         passed: 0,
         answer: 0,
         line: 0,
@@ -79,8 +74,9 @@ fn opened(field: Modulus, intake: Intake, text: &[u8], ended: bool) -> Intake
 }
 
 // 3, 5 and 6 of the next row.
-fn fault(field: Modulus, intake: Intake, op: Op, guard: u64, addr: u64, value: u64) -> u32
-    ensures { result ≡ input_line_fault (modulus_of field) intake.memory intake.size intake.passed (given_row op guard addr value) }
+#[tactic(auto, unfolding(runs::specs::FillFile::input_line_fault, fill_lines::specs::Answers::given_of))]
+fn fault(field: Modulus, intake: Intake, row: Given) -> Result<(), Fault>
+    ensures { fault_of result ≡ input_line_fault (modulus_of field) intake.memory intake.size intake.passed (given_of (Ok row)) }
 {
     let memory = intake.memory;
     let phase = if intake.passed < intake.size {
@@ -88,84 +84,66 @@ fn fault(field: Modulus, intake: Intake, op: Op, guard: u64, addr: u64, value: u
     } else {
         Phase::Operating
     };
-    inputs::fault(field, memory, phase, op, guard, addr, value)
+    inputs::fault(field, memory, phase, row)
 }
 
 // Writes row k.
-fn store_row(words: &mut [u64], k: u32, op: u64, guard: u64, addr: u64, value: u64)
-    ensures { words.new ≡ stored_words words.old k op guard addr value }
+#[tactic(auto, unfolding(runs::specs::FillStream::stored_at))]
+fn store_row(words: &mut [u64], k: u32, row: Given)
+    ensures { words.new ≡ stored_at words.old k (given_input row) }
 {
     let at = 4 * (k as usize);
-    words::store(words, at, op);
-    words::store(words, at + 1, guard);
-    words::store(words, at + 2, addr);
-    words::store(words, at + 3, value);
+    words::store(words, at, u64::from(row.op));
+    words::store(words, at + 1, row.guard);
+    words::store(words, at + 2, row.addr);
+    words::store(words, at + 3, row.value);
 }
 
 // A row that is due: it is stored, or its fault is the refusal.
-fn take(
-    field: Modulus,
-    mut intake: Intake,
-    op: Op,
-    guard: u64,
-    addr: u64,
-    value: u64,
-    words: &mut [u64],
-) -> Intake
-    ensures { gathered result words.new ≡ input_taken (modulus_of field) (gathered intake words.old) (given_row op guard addr value) }
+#[tactic(auto, unfolding(runs::specs::FillStream::input_taken, runs::specs::FillStream::gathered, runs::specs::FillStream::pass_row, fill_lines::specs::Answers::given_of))]
+fn take(field: Modulus, intake: Intake, row: Given, words: &mut [u64]) -> Intake
+    ensures { gathered result words.new ≡ input_taken (modulus_of field) (gathered intake words.old) (given_of (Ok row)) }
 {
-    let number = ops::code(op);
-    let fault = fault(field, intake, op, guard, addr, value);
-    if fault != 0 {
-        return refuse_row(intake, fault);
-    }
-    store_row(words, intake.passed, number, guard, addr, value);
-    intake.passed = counters::raise(intake.passed, 1);
-    intake
-}
-
-// The number of a row line that is refused, 2 or 3; 0 of any other.
-fn given_fault(given: Given) -> u32
-    ensures { result ≡ given_fault given }
-{
-    match given {
-        Given::Row { .. } => 0,
-        Given::Fault(fault) => fault,
+    let fault = fault(field, intake, row);
+    let Ok(()) = fault else {
+        return refuse_row(intake, number(&fault));
+    };
+    store_row(words, intake.passed, row);
+    Intake {
+        passed: counters::raise(intake.passed, 1),
+        ..intake
     }
 }
 
 // A row line; a surplus one is 7.
-fn row(field: Modulus, intake: Intake, text: &[u8], ended: bool, words: &mut [u64]) -> Intake
-    ensures { gathered result words.new ≡ row_taken (modulus_of field) (gathered intake words.old) (record { text = text.now; ended = ended }) }
+#[tactic(auto, unfolding(runs::specs::FillStream::row_taken, runs::specs::FillStream::input_taken, runs::specs::FillStream::gathered, fill_lines::specs::Answers::given_of))]
+fn row(field: Modulus, intake: Intake, line: &Written, words: &mut [u64]) -> Intake
+    ensures { gathered result words.new ≡ row_taken (modulus_of field) (gathered intake words.old) (as_line line.now) }
 {
     if due(intake) <= intake.passed as usize {
-        return refuse_row(intake, numbers::NOT_COMPLETE);
+        return refuse_row(intake, u32::from(Fault::NotComplete));
     }
-    let read = fill_lines::input_line(field, text, ended);
-    let Given::Row {
-        op,
-        guard,
-        addr,
-        value,
-    } = read
-    else {
-        return refuse_row(intake, given_fault(read));
+    let read = fill_lines::input_line(field, line);
+    let Ok(row) = read else {
+        return refuse_row(intake, number(&read));
     };
-    take(field, intake, op, guard, addr, value, words)
+    take(field, intake, row, words)
 }
 
-// Any line: after a fault nothing is read.
-pub fn line(field: Modulus, intake: Intake, text: &[u8], ended: bool, words: &mut [u64]) -> Intake
-    ensures { gathered result words.new ≡ line_taken (modulus_of field) (gathered intake words.old) (record { text = text.now; ended = ended }) }
+// Any line: after a fault nothing is read. An intake has any number for its place, and every place
+// from 4 on is that of the rows.
+#[tactic(auto, unfolding(runs::specs::FillStream::line_taken, runs::specs::FillStream::open_line, runs::specs::FillStream::gathered))]
+pub fn line(field: Modulus, intake: Intake, line: &Written, words: &mut [u64]) -> Intake
+    ensures { gathered result words.new ≡ line_taken (modulus_of field) (gathered intake words.old) (as_line line.now) }
 {
     if intake.answer != 0 {
         return intake;
     }
     let place = intake.place;
     match place {
-        1 => named(intake, 1, fill_lines::fill_names_line(text, ended)),
-        2 => opened(field, intake, text, ended),
-        3 => named(intake, 3, fill_lines::input_names_line(text, ended)),
-        _ => row(field, intake, text, ended, words),
+        1 => named(intake, 1, fill_lines::fill_names_line(line)),
+        2 => opened(field, intake, line),
+        3 => named(intake, 3, fill_lines::input_names_line(line)),
+        _ => row(field, intake, line, words),
     }
 }

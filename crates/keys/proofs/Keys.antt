@@ -17,9 +17,9 @@ use Rattle.memory.specs.declared.Op.TheVariants.{Init, Access, Look, Member, Pus
 use Rattle.memory.specs.Text.{bytes}
 use Rattle.memory.specs.Bytes.{same}
 use Rattle.memory.specs.Names.{memory_name, op_name, memory_named, op_named}
+use Rattle.memory.proofs.ReadRows.{both_pass}
 use Rattle.memory.proofs.Same.{same_eq, same_refl}
 use Rattle.keys.specs.Keys.{key_from, key_of, longest_name, op_keyed, memory_keyed}
-use Rattle.keys.proofs.Bools.{and_both}
 
 -- every element is a byte
 abbrev pub Bytes : List ℕ → Type 0
@@ -83,8 +83,8 @@ same_key xs ys are bytes = by (same xs ys) refl (eqb (key_from 1 xs) (key_from 1
 
 bytes_are : (bs : List ℕ) → are_bytes bs ≡ true → Bytes bs
 bytes_are [] e i = omega arith
-bytes_are (b ∷ bs) e zero = ltb-true b 256 (and_both (ltb b 256) (are_bytes bs) e).0
-bytes_are (b ∷ bs) e (suc i) = bytes_are bs (and_both (ltb b 256) (are_bytes bs) e).1 i
+bytes_are (b ∷ bs) e zero = ltb-true b 256 (both_pass (ltb b 256) (are_bytes bs) e).0
+bytes_are (b ∷ bs) e (suc i) = bytes_are bs (both_pass (ltb b 256) (are_bytes bs) e).1 i
 
 -- a name of bytes that is no longer than the longest
 pub record Short (name : List ℕ) : Type 0 where

@@ -1,7 +1,7 @@
 -- The name of a line, its first field, as one number: its key, and the op and the memory that a key stands for.
 -- Assumes nothing.
 use Rattle.std.specs.Prelude.{ℕ, ◌+◌, ◌*◌, cond, List, [], ◌∷◌, eqb, leb, length}
-use Rattle.std.proofs.Math.Option.{Option, none, some}
+use Rattle.std.specs.Prelude.{Option, None, Some}
 use Rattle.memory.specs.declared.Memory.{Memory}
 use Rattle.memory.specs.declared.Memory.TheVariants.{Ram, Rom, Set, Stack, Queue}
 use Rattle.memory.specs.declared.Op.{Op}
@@ -9,8 +9,6 @@ use Rattle.memory.specs.declared.Op.TheVariants.{Init, Access, Look, Member, Pus
 use Rattle.memory.specs.Names.{memory_name, op_name}
 use Rattle.memory.specs.Bytes.{comma}
 use Rattle.keys.specs.declared.Name.{Name}
-use Rattle.keys.specs.declared.Known.{Known}
-use Rattle.keys.specs.declared.Known.TheVariants.{Is, Unknown}
 
 -- bytes to the base 256, after the key of the bytes before them
 unfoldable pub key_from : ℕ → List ℕ → ℕ
@@ -52,14 +50,9 @@ op_keyed key =
 -- the memory whose name has the key
 unfoldable pub memory_keyed : ℕ → Option Memory
 memory_keyed key =
-    cond (eqb key (key_of (memory_name Ram))) (some Ram)
-    (cond (eqb key (key_of (memory_name Rom))) (some Rom)
-    (cond (eqb key (key_of (memory_name Set))) (some Set)
-    (cond (eqb key (key_of (memory_name Stack))) (some Stack)
-    (cond (eqb key (key_of (memory_name Queue))) (some Queue)
-    none))))
-
--- the memory that an answer names, if it names one
-unfoldable pub known_of : Known → Option Memory
-known_of (Is memory) = some memory
-known_of Unknown = none
+    cond (eqb key (key_of (memory_name Ram))) (Some Ram)
+    (cond (eqb key (key_of (memory_name Rom))) (Some Rom)
+    (cond (eqb key (key_of (memory_name Set))) (Some Set)
+    (cond (eqb key (key_of (memory_name Stack))) (Some Stack)
+    (cond (eqb key (key_of (memory_name Queue))) (Some Queue)
+    None))))

@@ -2,8 +2,8 @@
 // Every slice is read, whatever it holds.
 #![tactic(auto)]
 
-ghost use Rattle.std.specs.Prelude.{◌≡◌, ◌+◌, length, drop};
-ghost use Rattle.keys.specs.Keys.{first, name_of, op_keyed, memory_keyed, known_of};
+ghost use Rattle.std.specs.Prelude.{◌≡◌};
+ghost use Rattle.keys.specs.Keys.{first, name_of, op_keyed, memory_keyed};
 
 use decimal::COMMA;
 use memory::{Memory, Op};
@@ -11,51 +11,29 @@ use memory::{Memory, Op};
 // The bytes of the longest name of an op or a memory.
 const LONGEST_NAME: usize = 7;
 
-// The first field of a line: its key, and the position after it.
+// The first field of a line: its key, and the position after it. A name too long for any key has
+// the key 0, which no name has: the two lookups by key then need no case for it.
 #[derive(Clone, Copy)]
 pub struct Name {
     pub key: u64,
     pub next: usize,
 }
 
-// Whether a name is that of a memory; `Unknown` is 4.
-#[derive(Clone, Copy)]
-pub enum Known {
-    Is(Memory),
-    Unknown,
-}
-
-// The position of the first comma from a position on, or the end of the text.
-fn comma_from(text: &[u8], from: usize) -> usize
-    ensures { result ≡ from + length (first (drop from text.now)) }
-{
-    let mut i = from;
-    while i < text.len() {
-        if text[i] == COMMA {
-            return i;
-        }
-        i += 1;
-    }
-    i
-}
-
 // The first field: its key, and the position after it.
 pub fn name_of(text: &[u8]) -> Name
     ensures { result ≡ name_of (first text.now) }
 {
-    let stop = decimal::smaller(text.len(), LONGEST_NAME);
+    let stop = text.len().min(LONGEST_NAME);
     let mut key: u64 = 1;
-    let mut i = 0;
-    while i < stop {
+    for i in 0..stop {
         let b = text[i];
         if b == COMMA {
             return Name { key, next: i };
         }
         key = key * 256 + b as u64;
-        i += 1;
     }
-    let next = comma_from(text, i);
-    if next == i {
+    let next = decimal::position_from(text, COMMA, stop);
+    if next == stop {
         Name { key, next }
     } else {
         Name { key: 0, next }
@@ -63,6 +41,7 @@ pub fn name_of(text: &[u8]) -> Name
 }
 
 // The op whose name has the key: a 1, and the bytes of the name.
+#[tactic(auto, unfolding(crate::specs::Keys::op_keyed, crate::specs::Keys::key_of, crate::specs::Keys::key_from, crate::specs::Keys::longest_name, memory::specs::Names::op_name, memory::specs::Text::bytes))]
 pub fn op_of(key: u64) -> Op
     ensures { result ≡ op_keyed key }
 {
@@ -82,15 +61,16 @@ pub fn op_of(key: u64) -> Op
 }
 
 // The memory whose name has the key.
-pub fn memory_of(key: u64) -> Known
-    ensures { known_of result ≡ memory_keyed key }
+#[tactic(auto, unfolding(crate::specs::Keys::memory_keyed, crate::specs::Keys::key_of, crate::specs::Keys::key_from, crate::specs::Keys::longest_name, memory::specs::Names::memory_name, memory::specs::Text::bytes))]
+pub fn memory_of(key: u64) -> Option<Memory>
+    ensures { result ≡ memory_keyed key }
 {
     match key {
-        0x1_72_616d => Known::Is(Memory::Ram),
-        0x1_72_6f6d => Known::Is(Memory::Rom),
-        0x1_73_6574 => Known::Is(Memory::Set),
-        0x1_73_7461_636b => Known::Is(Memory::Stack),
-        0x1_71_7565_7565 => Known::Is(Memory::Queue),
-        _ => Known::Unknown,
+        0x1_72_616d => Some(Memory::Ram),
+        0x1_72_6f6d => Some(Memory::Rom),
+        0x1_73_6574 => Some(Memory::Set),
+        0x1_73_7461_636b => Some(Memory::Stack),
+        0x1_71_7565_7565 => Some(Memory::Queue),
+        _ => None,
     }
 }

@@ -9,14 +9,14 @@ use lib.Dec.{eqb}
 use lib.ListN.{get_or, drop}
 use Rattle.memory.specs.declared.Memory.{Memory}
 use Rattle.memory.specs.declared.Op.{Op}
-use Rattle.memory.specs.declared.Parsed.{Parsed}
-use Rattle.memory.specs.declared.Parsed.TheVariants.{Sound, Fault}
+use Rattle.memory.specs.Faults.{Parsed}
+use Rattle.std.specs.Prelude.{Ok, Err}
 use Rattle.memory.specs.Bytes.{Line, comma, fields, numbers, all_below, Fields, named, no_fields, readable, fields_of}
 use Rattle.memory.specs.Names.{op_named, memory_named}
 use Rattle.memory.specs.Rows.{limit, allowed, row_fields, row_with, row_read, parse_row}
 use Rattle.memory.specs.File.{shut, value_fields, opened_by, values_read, parse_values}
 use Rattle.keys.specs.Keys.{key_of, first, op_keyed, memory_keyed}
-use Rattle.fields.proofs.Parts.{Keyed, keyed, faulty, by_key}
+use Rattle.fields.specs.Keyed.{Keyed, keyed, faulty, by_key}
 use Rattle.fields.proofs.Fields.{fields_first}
 use Rattle.memory.proofs.Reached.{bounded_start}
 use Rattle.keys.proofs.Keys.{Bytes, op_keyed_lem, memory_keyed_lem}
@@ -80,10 +80,10 @@ module _ (line : Line) (are : Bytes line.text) where
 
 -- the answer of a row line, from what the name stands for and the numbers
 unfoldable pub row_of : Op → List ℕ → Parsed
-row_of o ns = Sound (row_with o ns)
+row_of o ns = Ok (row_with o ns)
 
 module _ (q : ℕ) (line : Line) (are : Bytes line.text) where
-  pub row_keyed : {found : Keyed} → found ≡ by_key (fields_of q row_fields line) → on_keyed Fault row_of op_keyed found ≡ parse_row q line
+  pub row_keyed : {found : Keyed} → found ≡ by_key (fields_of q row_fields line) → on_keyed Err row_of op_keyed found ≡ parse_row q line
   unfolding parse_row row_read row_of
   row_keyed is = line_keyed row_read row_of op_named op_keyed (λ name ns. refl) q row_fields line (op_agrees line are) is
 

@@ -12,8 +12,8 @@ use lib.ListN.{length}
 use borrow.Author.Tests.{eqb-true, leb-false}
 use Rattle.memory.specs.declared.Memory.{Memory}
 use Rattle.memory.specs.declared.Row.{Row}
-use Rattle.memory.specs.declared.Parsed.{Parsed}
-use Rattle.memory.specs.declared.Parsed.TheVariants.{Sound, Fault}
+use Rattle.memory.specs.Faults.{Parsed}
+use Rattle.std.specs.Prelude.{Ok, Err}
 use Rattle.memory.specs.declared.Challenge.{Challenge}
 use Rattle.memory.specs.declared.Report.{Report}
 use Rattle.memory.specs.Bytes.{all_below}
@@ -80,11 +80,11 @@ fault_most n t k due form sunk =
 
 parsed_most : (q : ℕ) (m : Memory) (n t : ℕ) (rows : List Row) (x : Parsed) → parsed_fault q m n t rows x ≤ 8
 unfolding parsed_fault row_fault
-parsed_most q m n t rows (Sound row) =
+parsed_most q m n t rows (Ok row) =
     chosen (AtMost 8) (row_below q row)
     (fault_most n t (length rows) (op_in row.op (ops_due m (phase_after m n t rows))) (formed m row) (sunk q m (rows ++ row ∷ [])))
     (omega arith)
-parsed_most q m n t rows (Fault f) = chosen (AtMost 8) (eqb f 3) (omega arith) (omega arith)
+parsed_most q m n t rows (Err f) = chosen (AtMost 8) (eqb f 3) (omega arith) (omega arith)
 
 line_most : (q : ℕ) (m : Memory) (n t : ℕ) (rows : List Row) (x : Parsed) → line_fault q m n t rows x ≤ 8
 unfolding line_fault

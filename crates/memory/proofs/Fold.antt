@@ -14,8 +14,8 @@ use Rattle.algebra.specs.Hash.{hash_from}
 use Rattle.field.specs.Moduli.{modulus_of}
 use Rattle.memory.specs.declared.Memory.{Memory}
 use Rattle.memory.specs.declared.Row.{Row}
-use Rattle.memory.specs.declared.Parsed.{Parsed}
-use Rattle.memory.specs.declared.Parsed.TheVariants.{Sound, Fault}
+use Rattle.memory.specs.Faults.{Parsed}
+use Rattle.std.specs.Prelude.{Ok, Err}
 use Rattle.memory.specs.declared.Challenge.{Challenge}
 use Rattle.memory.specs.declared.Context.{Context}
 use Rattle.memory.specs.declared.Products.{Products}
@@ -177,20 +177,20 @@ unfolding step_of state_of context_of takes_rows due due_after
 step_surplus q m n t ch rows x e = rw e
 
 step_fault_line : (q : ℕ) (m : Memory) (n t : ℕ) (ch : Challenge) (rows : List Row) (f : ℕ) → ltb (length rows) (due_after m n t rows) ≡ true
-    → step_of q (state_of q m n t ch rows) (Fault f)
+    → step_of q (state_of q m n t ch rows) (Err f)
     ≡ with_context (state_of q m n t ch rows) (refuse_next (context_of q m n t rows) (unread_fault f))
 unfolding step_of state_of context_of takes_rows due due_after take_parsed
 step_fault_line q m n t ch rows f e = rw e
 
 step_large : (q : ℕ) (m : Memory) (n t : ℕ) (ch : Challenge) (rows : List Row) (row : Row) → ltb (length rows) (due_after m n t rows) ≡ true
     → row_below q row ≡ false
-    → step_of q (state_of q m n t ch rows) (Sound row) ≡ with_context (state_of q m n t ch rows) (refuse_next (context_of q m n t rows) 3)
+    → step_of q (state_of q m n t ch rows) (Ok row) ≡ with_context (state_of q m n t ch rows) (refuse_next (context_of q m n t rows) 3)
 unfolding step_of state_of context_of takes_rows due due_after take_parsed
 step_large q m n t ch rows row e large = rw (e, large)
 
 step_row : (q : ℕ) (m : Memory) (n t : ℕ) (ch : Challenge) (rows : List Row) (row : Row) → ltb (length rows) (due_after m n t rows) ≡ true
     → row_below q row ≡ true → Bounded n t rows
-    → step_of q (state_of q m n t ch rows) (Sound row)
+    → step_of q (state_of q m n t ch rows) (Ok row)
     ≡ cond (eqb (row_fault q m n t rows row) 0) (passed_row q (state_of q m n t ch rows) row)
     (with_context (state_of q m n t ch rows) (refuse_next (context_of q m n t rows) (row_fault q m n t rows row)))
 unfolding step_of state_of context_of takes_rows due due_after take_parsed take_row
@@ -203,17 +203,17 @@ unfolding line_fault
 line_surplus q m n t rows x e = rw e
 
 line_fault_lem : (q : ℕ) (m : Memory) (n t : ℕ) (rows : List Row) (f : ℕ) → ltb (length rows) (due_after m n t rows) ≡ true
-    → line_fault q m n t rows (Fault f) ≡ unread_fault f
+    → line_fault q m n t rows (Err f) ≡ unread_fault f
 unfolding line_fault parsed_fault
 line_fault_lem q m n t rows f e = rw e
 
 line_large : (q : ℕ) (m : Memory) (n t : ℕ) (rows : List Row) (row : Row) → ltb (length rows) (due_after m n t rows) ≡ true → row_below q row ≡ false
-    → line_fault q m n t rows (Sound row) ≡ 3
+    → line_fault q m n t rows (Ok row) ≡ 3
 unfolding line_fault parsed_fault
 line_large q m n t rows row e large = rw (e, large)
 
 line_row : (q : ℕ) (m : Memory) (n t : ℕ) (rows : List Row) (row : Row) → ltb (length rows) (due_after m n t rows) ≡ true → row_below q row ≡ true
-    → line_fault q m n t rows (Sound row) ≡ row_fault q m n t rows row
+    → line_fault q m n t rows (Ok row) ≡ row_fault q m n t rows row
 unfolding line_fault parsed_fault
 line_row q m n t rows row e small = rw (e, small)
 
@@ -250,19 +250,19 @@ pub record Folds (q : ℕ) (m : Memory) (n t : ℕ) (ch : Challenge) (rows : Lis
 fold_pass : (q : ℕ) (m : Memory) (n t : ℕ) (ch : Challenge) (rows : List Row) (row : Row) (xs : List Parsed)
     → ltb (length rows) (due_after m n t rows) ≡ true → row_below q row ≡ true → row_fault q m n t rows row ≡ 0 → Bounded n t rows
     → (Bounded n t (rows ++ row ∷ []) → Folds q m n t ch (rows ++ row ∷ []) xs)
-    → Folds q m n t ch rows (Sound row ∷ xs)
+    → Folds q m n t ch rows (Ok row ∷ xs)
 unfolding steps_of parsed_row rows_of
 fold_pass q m n t ch rows row xs e r z b rest = record {
   folds =
       ap (λ (s : State). report_of (end_of (steps_of q s xs))) taken
       ∙ ((rest (bounded_next q m n t rows row passes b)).folds
-      ∙ sym (ap₂ unless (first_rest q m n t rows (Sound row) xs (line_row q m n t rows row e r ∙ z)) (ap (closing q m n t ch) (sym (append_assoc rows (row ∷ []) (rows_of xs))))));
+      ∙ sym (ap₂ unless (first_rest q m n t rows (Ok row) xs (line_row q m n t rows row e r ∙ z)) (ap (closing q m n t ch) (sym (append_assoc rows (row ∷ []) (rows_of xs))))));
 }
   where
     passes : Passes q m n t rows row
     passes = record { due = e; fault = z }
 
-    taken : step_of q (state_of q m n t ch rows) (Sound row) ≡ state_of q m n t ch (rows ++ row ∷ [])
+    taken : step_of q (state_of q m n t ch rows) (Ok row) ≡ state_of q m n t ch (rows ++ row ∷ [])
     taken = step_row q m n t ch rows row e r b ∙ (rw z (passed_state q m n t ch rows row (due_form passes) b))
 
 -- one line, and then the lines after it
@@ -282,16 +282,16 @@ fold_line q m n t ch rows x xs b rest = pick (ltb (length rows) (due_after m n t
     }
 
     take_row_lem : (row : Row) → ltb (length rows) (due_after m n t rows) ≡ true → (s : Bool) → row_below q row ≡ s → (z : Bool) → eqb (row_fault q m n t rows row) 0 ≡ z
-        → Folds q m n t ch rows (Sound row ∷ xs)
-    take_row_lem row e false r z g = refuses (Sound row) 3 (step_large q m n t ch rows row e r) (line_large q m n t rows row e r) refl
+        → Folds q m n t ch rows (Ok row ∷ xs)
+    take_row_lem row e false r z g = refuses (Ok row) 3 (step_large q m n t ch rows row e r) (line_large q m n t rows row e r) refl
     take_row_lem row e true r true z = fold_pass q m n t ch rows row xs e r (eqb-true _ 0 z) b (rest row)
     take_row_lem row e true r false z =
-        refuses (Sound row) (row_fault q m n t rows row) (step_row q m n t ch rows row e r b ∙ rw z) (line_row q m n t rows row e r) z
+        refuses (Ok row) (row_fault q m n t rows row) (step_row q m n t ch rows row e r b ∙ rw z) (line_row q m n t rows row e r) z
 
     pick : (d : Bool) → ltb (length rows) (due_after m n t rows) ≡ d → (y : Parsed) → Folds q m n t ch rows (y ∷ xs)
     pick false e y = refuses y 7 (step_surplus q m n t ch rows y e) (line_surplus q m n t rows y e) refl
-    pick true e (Fault f) = refuses (Fault f) (unread_fault f) (step_fault_line q m n t ch rows f e) (line_fault_lem q m n t rows f e) (ne_eqb _ 0 (fault_not_zero f))
-    pick true e (Sound row) = take_row_lem row e (row_below q row) refl (eqb (row_fault q m n t rows row) 0) refl
+    pick true e (Err f) = refuses (Err f) (unread_fault f) (step_fault_line q m n t ch rows f e) (line_fault_lem q m n t rows f e) (ne_eqb _ 0 (fault_not_zero f))
+    pick true e (Ok row) = take_row_lem row e (row_below q row) refl (eqb (row_fault q m n t rows row) 0) refl
 
 -- every list of what lines can read as
 fold_rows : (q : ℕ) (m : Memory) (n t : ℕ) (ch : Challenge) (rows : List Row) (xs : List Parsed) → Bounded n t rows → Folds q m n t ch rows xs

@@ -23,3 +23,5 @@ pub mod ReportLength
 pub mod Factors
 pub mod Promises
 pub mod Pieces
+pub mod SameOp
+pub mod Below

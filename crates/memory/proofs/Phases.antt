@@ -22,8 +22,8 @@ use Rattle.memory.specs.declared.Op.TheVariants.{Init, End, Range}
 use Rattle.memory.specs.declared.Phase.{Phase}
 use Rattle.memory.specs.declared.Phase.TheVariants.{Starting, Operating, Ending, Ranging, Over}
 use Rattle.memory.specs.declared.Row.{Row}
-use Rattle.memory.specs.declared.Parsed.{Parsed}
-use Rattle.memory.specs.declared.Parsed.TheVariants.{Sound, Fault}
+use Rattle.memory.specs.Faults.{Parsed}
+use Rattle.std.specs.Prelude.{Ok, Err}
 use Rattle.memory.specs.Names.{op_code, is_op}
 use Rattle.memory.specs.Rows.{raise_by, lower_by, raised, lowered, ends_due, ranges_due, phase_at, ops_due, op_in, formed, row_below, depth_factor, depth_product, sunk, due_after, phase_after, row_fault, unread_fault, parsed_fault, line_fault}
 use Rattle.memory.specs.Equations.{lists_of, end_rows, range_rows, file_lists}
@@ -375,7 +375,7 @@ module _ (q : ℕ) (m : Memory) (n t : ℕ) where
 
   -- a row that meets none of 1 to 7: its numbers are below q, it is one of its phase, and the test
   -- for 8 gives its fault
-  row_kept : (k : ℕ) → Late k → (rows : List Row) (row : Row) → line_fault q m n t rows (Sound row) ≡ k
+  row_kept : (k : ℕ) → Late k → (rows : List Row) (row : Row) → line_fault q m n t rows (Ok row) ≡ k
       → RowBelow q row × DueRow m (phase_after m n t rows) row
       × (cond (leb 1 t && (eqb (length rows + 1) (n + t) && sunk q m (rows ++ row ∷ []))) 8 0 ≡ k)
   unfolding line_fault parsed_fault row_fault
@@ -387,14 +387,14 @@ module _ (q : ℕ) (m : Memory) (n t : ℕ) where
       (row_below_lem q row (formed_single m row form.0) small.0, (op.0, form.0), form.1)
 
   -- what reads as no row meets one of them
-  unread_met : (k : ℕ) → Late k → (rows : List Row) (f : ℕ) → line_fault q m n t rows (Fault f) ≡ k → ⊥
+  unread_met : (k : ℕ) → Late k → (rows : List Row) (f : ℕ) → line_fault q m n t rows (Err f) ≡ k → ⊥
   unfolding line_fault parsed_fault
   unread_met k late rows f e =
       let read = (chosen_first k (ltb (length rows) (due_after m n t rows)) (unread_fault f) 7 (late 7 (omega arith) (omega arith)) e).1 in
       late 3 (omega arith) (omega arith) (chosen_first k (eqb f 3) 3 2 (late 2 (omega arith) (omega arith)) read).1
 
   -- a line of a phase has no fault exactly when its row is one of the phase, its numbers are below q, and 8 is not met
-  row_passes : (d : ℕ) (p : Phase) (rows : List Row) (row : Row) → At d p rows → length rows < till d p → line_fault q m n t rows (Sound row) ≡ 0
+  row_passes : (d : ℕ) (p : Phase) (rows : List Row) (row : Row) → At d p rows → length rows < till d p → line_fault q m n t rows (Ok row) ≡ 0
       → DueRow m p row × Calm (rows ++ row ∷ [])
   row_passes d p rows row a h e =
       let kept = row_kept 0 none_late rows row e in
@@ -402,7 +402,7 @@ module _ (q : ℕ) (m : Memory) (n t : ℕ) where
 
   -- and the other way round
   passing_row : (d : ℕ) (p : Phase) (rows : List Row) (row : Row) → At d p rows → length rows < till d p → RowBelow q row → DueRow m p row
-      → Calm (rows ++ row ∷ []) → line_fault q m n t rows (Sound row) ≡ 0
+      → Calm (rows ++ row ∷ []) → line_fault q m n t rows (Ok row) ≡ 0
   unfolding line_fault parsed_fault row_fault
   passing_row d p rows row a h below due calm =
       rw (lt-ltb (length rows) (due_after m n t rows) (at_due d p rows a h), below_row q row below, at_phase d p rows a h, due.0, due.1, calm_length rows row, calm)
@@ -416,7 +416,7 @@ module _ (q : ℕ) (m : Memory) (n t : ℕ) where
     due : DueRows m p part
     stays : At d p (rows ++ part)
     calm : Calm (rows ++ part)
-    further : (first_fault q m n t (rows ++ part) (map Sound rest)).number ≡ 0
+    further : (first_fault q m n t (rows ++ part) (map Ok rest)).number ≡ 0
 
   -- one row more
   passing_more : (d : ℕ) (p : Phase) (rows : List Row) (y : Row) (j : ℕ) (ys : List Row) → DueRow m p y → Passing d p (rows ++ y ∷ []) j ys
@@ -431,12 +431,12 @@ module _ (q : ℕ) (m : Memory) (n t : ℕ) where
         due = (due, r.due);
         stays = subst (At d p) same r.stays;
         calm = subst Calm same r.calm;
-        further = subst (λ (z : List Row). (first_fault q m n t z (map Sound r.rest)).number ≡ 0) same r.further;
+        further = subst (λ (z : List Row). (first_fault q m n t z (map Ok r.rest)).number ≡ 0) same r.further;
       }
 
   -- where no fault is met, j rows pass if the phase lasts for j rows
   passing : (d : ℕ) (p : Phase) (j : ℕ) (rows ys : List Row) → At d p rows → length rows + j ≤ till d p → Calm rows
-      → (first_fault q m n t rows (map Sound ys)).number ≡ 0 → Passing d p rows j ys
+      → (first_fault q m n t rows (map Ok ys)).number ≡ 0 → Passing d p rows j ys
   unfolding first_fault refusal parsed_row
   passing d p zero rows ys a h calm e =
       let same = sym (append-nil rows) in
@@ -448,7 +448,7 @@ module _ (q : ℕ) (m : Memory) (n t : ℕ) where
         due = tt;
         stays = subst (At d p) same a;
         calm = subst Calm same calm;
-        further = subst (λ (r : List Row). (first_fault q m n t r (map Sound ys)).number ≡ 0) same e;
+        further = subst (λ (r : List Row). (first_fault q m n t r (map Ok ys)).number ≡ 0) same e;
       }
   passing d p (suc j) rows [] a h calm e =
       absurd (7≢0 (rw (lt-ltb (length rows) (due_after m n t rows) (at_due d p rows a (omega arith))) at e))
@@ -456,7 +456,7 @@ module _ (q : ℕ) (m : Memory) (n t : ℕ) where
       7≢0 : ◌≡◌ {A = ℕ} 7 0 → ⊥
       7≢0 = omega arith
   passing d p (suc j) rows (y ∷ ys) a h calm e =
-      let step = no_fault_step rows (Sound y) (map Sound ys) e in
+      let step = no_fault_step rows (Ok y) (map Ok ys) e in
       let here = row_passes d p rows y a (omega arith) step.0 in
       passing_more d p rows y j ys here.0
       (passing d p j (rows ++ y ∷ []) ys (at_step d p rows y here.0.0 a) (omega (arith, length-append rows (y ∷ []))) here.1 step.1)
@@ -498,14 +498,14 @@ module _ (q : ℕ) (m : Memory) (n t : ℕ) where
 
   -- the rows of a phase pass
   passed_over : (d : ℕ) (p : Phase) (rows part rest : List Row) → At d p rows → length rows + length part ≤ till d p → RowsBelow q part → DueRows m p part
-      → Calm (rows ++ part) → first_fault q m n t rows (map Sound (part ++ rest)) ≡ first_fault q m n t (rows ++ part) (map Sound rest)
+      → Calm (rows ++ part) → first_fault q m n t rows (map Ok (part ++ rest)) ≡ first_fault q m n t (rows ++ part) (map Ok rest)
   unfolding first_fault parsed_row
-  passed_over d p rows [] rest a h below due calm = ap (λ (r : List Row). first_fault q m n t r (map Sound rest)) (sym (append-nil rows))
+  passed_over d p rows [] rest a h below due calm = ap (λ (r : List Row). first_fault q m n t r (map Ok rest)) (sym (append-nil rows))
   passed_over d p rows (row ∷ part) rest a h below due calm =
       rw (passing_row d p rows row a (omega arith) below.0 due.0 (calm_first d p rows row part a h calm))
       (passed_over d p (rows ++ row ∷ []) part rest (at_step d p rows row due.0.0 a) (omega (arith, length-append rows (row ∷ []))) below.1 due.1
       (subst Calm (sym (append_assoc rows (row ∷ []) part)) calm)
-      ∙ ap (λ (r : List Row). first_fault q m n t r (map Sound rest)) (append_assoc rows (row ∷ []) part))
+      ∙ ap (λ (r : List Row). first_fault q m n t r (map Ok rest)) (append_assoc rows (row ∷ []) part))
 
   -- what holds before the rows of a phase holds after them
   at_through : (d : ℕ) (p : Phase) (rows part : List Row) → DueRows m p part → At d p rows → At d p (rows ++ part)
@@ -535,16 +535,16 @@ module _ (q : ℕ) (m : Memory) (n t : ℕ) where
       ap₂ (ends_due m n) up down
 
   -- no row follows the last due one
-  none_follows : (rows ys : List Row) → due_after m n t rows ≤ length rows → (first_fault q m n t rows (map Sound ys)).number ≡ 0 → ys ≡ []
+  none_follows : (rows ys : List Row) → due_after m n t rows ≤ length rows → (first_fault q m n t rows (map Ok ys)).number ≡ 0 → ys ≡ []
   none_follows rows [] h e = refl
   none_follows rows (y ∷ ys) h e =
-      absurd (7≢0 (unfold line_fault in rw (le-ltb (length rows) (due_after m n t rows) h) at (no_fault_step rows (Sound y) (map Sound ys) e).0))
+      absurd (7≢0 (unfold line_fault in rw (le-ltb (length rows) (due_after m n t rows) h) at (no_fault_step rows (Ok y) (map Ok ys) e).0))
     where
       7≢0 : ◌≡◌ {A = ℕ} 7 0 → ⊥
       7≢0 = omega arith
 
   -- after the end rows there are the range rows, and no others
-  only_ranges : (d : ℕ) (rows ys : List Row) → length rows ≡ n + t + d → ends_after rows ≡ d → Calm rows → (first_fault q m n t rows (map Sound ys)).number ≡ 0
+  only_ranges : (d : ℕ) (rows ys : List Row) → length rows ≡ n + t + d → ends_after rows ≡ d → Calm rows → (first_fault q m n t rows (map Ok ys)).number ≡ 0
       → (length ys ≡ ranges_due m t) × DueRows m Ranging ys
   only_ranges d rows ys long ends calm e =
       go (passing d Ranging (ranges_due m t) rows ys (omega (arith, long), ends) (omega (arith, long)) calm e)
@@ -569,7 +569,7 @@ module _ (q : ℕ) (m : Memory) (n t : ℕ) where
     ranging : DueRows m Ranging ranges
 
   -- where no fault is met, they are as many as are due
-  closing : (rows ys : List Row) → length rows ≡ n + t → Calm rows → (first_fault q m n t rows (map Sound ys)).number ≡ 0 → Closing rows ys
+  closing : (rows ys : List Row) → length rows ≡ n + t → Calm rows → (first_fault q m n t rows (map Ok ys)).number ≡ 0 → Closing rows ys
   closing rows ys long calm e = go (passing (ends_after rows) Ending (ends_after rows) rows ys (omega (arith, long), refl) (omega (arith, long)) calm e)
     where
       go : Passing (ends_after rows) Ending rows (ends_after rows) ys → Closing rows ys
@@ -578,7 +578,7 @@ module _ (q : ℕ) (m : Memory) (n t : ℕ) where
           record { ends = r.part; ranges = r.rest; split = r.split; depth = r.count; ages = last.0; ending = r.due; ranging = last.1 }
 
   -- rows that meet no fault are the rows of the four phases
-  pub no_fault_parts : (rows : List Row) → (first_fault q m n t [] (map Sound rows)).number ≡ 0 → Parts q m n t rows
+  pub no_fault_parts : (rows : List Row) → (first_fault q m n t [] (map Ok rows)).number ≡ 0 → Parts q m n t rows
   no_fault_parts rows e = from (passing 0 Starting n [] rows tt (omega arith) (calm_early [] (omega arith)) e)
     where
       joined : (f : Passing 0 Starting [] n rows) (s : Passing 0 Operating f.part t f.rest) → Closing (f.part ++ s.part) s.rest → Parts q m n t rows
@@ -608,9 +608,9 @@ module _ (q : ℕ) (m : Memory) (n t : ℕ) where
 
   -- the range rows are the last ones due
   ranges_no_fault : (d : ℕ) (rows ranges : List Row) → length rows ≡ n + t + d → ends_after rows ≡ d → Calm rows → length ranges ≡ ranges_due m t
-      → RowsBelow q ranges → DueRows m Ranging ranges → first_fault q m n t rows (map Sound ranges) ≡ refusal 0 0
+      → RowsBelow q ranges → DueRows m Ranging ranges → first_fault q m n t rows (map Ok ranges) ≡ refusal 0 0
   ranges_no_fault d rows ranges long ends calm ages below due =
-      ap (λ (l : List Row). first_fault q m n t rows (map Sound l)) (sym (append-nil ranges))
+      ap (λ (l : List Row). first_fault q m n t rows (map Ok l)) (sym (append-nil ranges))
       ∙ (passed_over d Ranging rows ranges [] a (omega (arith, long, ages)) below due (calm_late rows ranges (omega (arith, long)) calm)
       ∙ nothing_missing (at_through d Ranging rows ranges due a).1)
     where
@@ -624,7 +624,7 @@ module _ (q : ℕ) (m : Memory) (n t : ℕ) where
 
   -- after the operations, the end rows and the range rows are due
   closing_no_fault : (rows ends ranges : List Row) → length rows ≡ n + t → Calm rows → length ends ≡ ends_after rows → length ranges ≡ ranges_due m t
-      → RowsBelow q (ends ++ ranges) → DueRows m Ending ends → DueRows m Ranging ranges → first_fault q m n t rows (map Sound (ends ++ ranges)) ≡ refusal 0 0
+      → RowsBelow q (ends ++ ranges) → DueRows m Ending ends → DueRows m Ranging ranges → first_fault q m n t rows (map Ok (ends ++ ranges)) ≡ refusal 0 0
   closing_no_fault rows ends ranges long calm depth ages both ending ranging =
       let below = split_below q ends ranges both in
       let kept = calm_late rows ends (omega (arith, long)) calm in
@@ -633,12 +633,12 @@ module _ (q : ℕ) (m : Memory) (n t : ℕ) where
       ∙ ranges_no_fault (ends_after rows) (rows ++ ends) ranges (omega (arith, length-append rows ends, long, depth)) (at_through (ends_after rows) Ending rows ends ending a).1 kept ages below.1 ranging
 
   -- the rows of the four phases meet no fault, where their numbers are below q
-  pub parts_no_fault : (rows : List Row) → RowsBelow q rows → Parts q m n t rows → first_fault q m n t [] (map Sound rows) ≡ refusal 0 0
+  pub parts_no_fault : (rows : List Row) → RowsBelow q rows → Parts q m n t rows → first_fault q m n t [] (map Ok rows) ≡ refusal 0 0
   parts_no_fault rows all p =
       let starts = split_below q p.inits (p.ops ++ (p.ends ++ p.ranges)) (subst (RowsBelow q) p.whole all) in
       let operates = split_below q p.ops (p.ends ++ p.ranges) starts.1 in
       let calm = afloat_calm p.inits p.ops p.count p.starting p.afloat in
-      ap (λ (l : List Row). first_fault q m n t [] (map Sound l)) p.whole
+      ap (λ (l : List Row). first_fault q m n t [] (map Ok l)) p.whole
       ∙ (passed_over 0 Starting [] p.inits (p.ops ++ (p.ends ++ p.ranges)) tt (omega (arith, p.size)) starts.0 p.starting (calm_early p.inits (omega (arith, p.size)))
       ∙ (passed_over 0 Operating p.inits p.ops (p.ends ++ p.ranges) (omega (arith, p.size)) (omega (arith, p.size, p.count)) operates.0 p.operating calm
       ∙ closing_no_fault (p.inits ++ p.ops) p.ends p.ranges (omega (arith, length-append p.inits p.ops, p.size, p.count)) calm (p.depth ∙ sym (ends_by_ops p.inits p.ops p.starting)) p.ages operates.1 p.ending p.ranging))
@@ -654,7 +654,7 @@ module _ (q : ℕ) (m : Memory) (n t : ℕ) where
     pub sinks : sunk q m (rows ++ part) ≡ true
 
   -- a row that meets 8
-  sinking_here : (rows : List Row) (row : Row) (ys : List Row) → line_fault q m n t rows (Sound row) ≡ 8 → Sinking rows (row ∷ ys)
+  sinking_here : (rows : List Row) (row : Row) (ys : List Row) → line_fault q m n t rows (Ok row) ≡ 8 → Sinking rows (row ∷ ys)
   sinking_here rows row ys e =
       let kept = row_kept 8 eight_late rows row e in
       let test = (chosen_first 8 (leb 1 t && (eqb (length rows + 1) (n + t) && sunk q m (rows ++ row ∷ []))) 8 0 (omega arith) kept.2).0 in
@@ -670,7 +670,7 @@ module _ (q : ℕ) (m : Memory) (n t : ℕ) where
       }
 
   -- and one that passes before it
-  sinking_more : (rows : List Row) (row : Row) (ys : List Row) → line_fault q m n t rows (Sound row) ≡ 0 → Sinking (rows ++ row ∷ []) ys
+  sinking_more : (rows : List Row) (row : Row) (ys : List Row) → line_fault q m n t rows (Ok row) ≡ 0 → Sinking (rows ++ row ∷ []) ys
       → Sinking rows (row ∷ ys)
   sinking_more rows row ys e s =
       let same = append_assoc rows (row ∷ []) s.part in
@@ -689,27 +689,27 @@ module _ (q : ℕ) (m : Memory) (n t : ℕ) where
   pub eight_sinking : (rows : List Row) (xs : List Parsed) → (first_fault q m n t rows xs).number ≡ 8 → Sinking rows (rows_of xs)
   unfolding rows_of parsed_row first_fault
   eight_sinking rows [] e = absurd (end_not_eight (ltb (length rows) (due_after m n t rows)) (length rows + 4) e)
-  eight_sinking rows (Sound row ∷ xs) e = elim (first_step 8 rows (Sound row) xs e) [
+  eight_sinking rows (Ok row ∷ xs) e = elim (first_step 8 rows (Ok row) xs e) [
     | inl passed ↦ sinking_more rows row (rows_of xs) passed.0 (eight_sinking (rows ++ row ∷ []) xs passed.1)
     | inr met ↦ sinking_here rows row (rows_of xs) met.1
   ]
-  eight_sinking rows (Fault f ∷ xs) e = elim (first_step 8 rows (Fault f) xs e) [
+  eight_sinking rows (Err f ∷ xs) e = elim (first_step 8 rows (Err f) xs e) [
     | inl passed ↦ absurd (unread_met 0 none_late rows f passed.0)
     | inr met ↦ absurd (unread_met 8 eight_late rows f met.1)
   ]
 
 -- a line that reads as no row is a fault
-fault_met : (q : ℕ) (m : Memory) (n t : ℕ) (before : List Row) (f : ℕ) (xs : List Parsed) → (first_fault q m n t before (Fault f ∷ xs)).number ≡ 0 → ⊥
-fault_met q m n t before f xs e = unread_met q m n t 0 none_late before f (no_fault_step q m n t before (Fault f) xs e).0
+fault_met : (q : ℕ) (m : Memory) (n t : ℕ) (before : List Row) (f : ℕ) (xs : List Parsed) → (first_fault q m n t before (Err f ∷ xs)).number ≡ 0 → ⊥
+fault_met q m n t before f xs e = unread_met q m n t 0 none_late before f (no_fault_step q m n t before (Err f) xs e).0
 
 -- A list of parsed rows that meets no fault is rows, one for each entry.
 pub no_fault_sound : (q : ℕ) (m : Memory) (n t : ℕ) (before : List Row) (xs : List Parsed) → (first_fault q m n t before xs).number ≡ 0
-    → xs ≡ map Sound (rows_of xs)
+    → xs ≡ map Ok (rows_of xs)
 unfolding rows_of parsed_row
 no_fault_sound q m n t before [] e = refl
-no_fault_sound q m n t before (Sound row ∷ xs) e =
-    ap {B = List Parsed} (λ l. Sound row ∷ l) (no_fault_sound q m n t (before ++ row ∷ []) xs (no_fault_step q m n t before (Sound row) xs e).1)
-no_fault_sound q m n t before (Fault f ∷ xs) e = absurd (fault_met q m n t before f xs e)
+no_fault_sound q m n t before (Ok row ∷ xs) e =
+    ap {B = List Parsed} (λ l. Ok row ∷ l) (no_fault_sound q m n t (before ++ row ∷ []) xs (no_fault_step q m n t before (Ok row) xs e).1)
+no_fault_sound q m n t before (Err f ∷ xs) e = absurd (fault_met q m n t before f xs e)
 
 -- Its rows are those of the four phases,
 pub no_fault_phases : (q : ℕ) (m : Memory) (n t : ℕ) (xs : List Parsed) → (first_fault q m n t [] xs).number ≡ 0 → Parts q m n t (rows_of xs)
@@ -720,7 +720,7 @@ no_fault_phases q m n t xs e =
 pub no_fault_below : (q : ℕ) (m : Memory) (n t : ℕ) (before : List Row) (xs : List Parsed) → (first_fault q m n t before xs).number ≡ 0 → RowsBelow q (rows_of xs)
 unfolding rows_of parsed_row
 no_fault_below q m n t before [] e = tt
-no_fault_below q m n t before (Sound row ∷ xs) e =
-    let step = no_fault_step q m n t before (Sound row) xs e in
+no_fault_below q m n t before (Ok row ∷ xs) e =
+    let step = no_fault_step q m n t before (Ok row) xs e in
     ((row_kept q m n t 0 none_late before row step.0).0, no_fault_below q m n t (before ++ row ∷ []) xs step.1)
-no_fault_below q m n t before (Fault f ∷ xs) e = absurd (fault_met q m n t before f xs e)
+no_fault_below q m n t before (Err f ∷ xs) e = absurd (fault_met q m n t before f xs e)

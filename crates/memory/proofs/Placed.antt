@@ -13,8 +13,8 @@ use Rattle.memory.specs.declared.Memory.{Memory}
 use Rattle.memory.specs.declared.Phase.{Phase}
 use Rattle.memory.specs.declared.Phase.TheVariants.{Over}
 use Rattle.memory.specs.declared.Row.{Row}
-use Rattle.memory.specs.declared.Parsed.{Parsed}
-use Rattle.memory.specs.declared.Parsed.TheVariants.{Sound, Fault}
+use Rattle.memory.specs.Faults.{Parsed}
+use Rattle.std.specs.Prelude.{Ok, Err}
 use Rattle.memory.specs.Rows.{raised, lowered, ends_due, ranges_due, phase_at, ops_due, op_in, row_below, due_after, phase_after, row_fault, unread_fault, parsed_fault, line_fault}
 use Rattle.memory.specs.File.{parsed_row, rows_of, Refusal, refusal, first_fault}
 use Rattle.memory.proofs.Counted.{length_snoc, raised_snoc, lowered_snoc}
@@ -40,9 +40,9 @@ pub record Complete (q : ℕ) (m : Memory) (n t : ℕ) (past rows : List Row) : 
 -- a line that is not at fault is due and reads as a row
 passes_of_line : (q : ℕ) (m : Memory) (n t : ℕ) (past : List Row) (x : Parsed) → line_fault q m n t past x ≡ 0 → Passes q m n t past (parsed_row x)
 unfolding line_fault parsed_fault parsed_row
-passes_of_line q m n t past (Fault f) e =
+passes_of_line q m n t past (Err f) e =
     absurd (fault_not_zero f (chosen_zero (ltb (length past) (due_after m n t past)) (unread_fault f) 7 (omega arith) e).1)
-passes_of_line q m n t past (Sound row) e =
+passes_of_line q m n t past (Ok row) e =
     let here = chosen_zero (ltb (length past) (due_after m n t past)) (cond (row_below q row) (row_fault q m n t past row) 3) 7 (omega arith) e in
     record { due = here.0; fault = (chosen_zero (row_below q row) (row_fault q m n t past row) 3 (omega arith) here.1).1 }
 

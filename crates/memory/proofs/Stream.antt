@@ -3,12 +3,12 @@
 use Prim.Native.Nat.{ℕ, ◌+◌, ◌≤◌}
 use mathlib.Core.Path.{◌≡◌, refl, sym, ◌∙◌, ap}
 use mathlib.Core.Bool.{Bool, true, false, cond}
-use mathlib.Core.Option.{Option, none, some}
+use Rattle.std.specs.Prelude.{Option, None, Some}
 use mathlib.Core.List.{List, [], ◌∷◌}
 use lib.Dec.{eqb, lit≤}
 use lib.ListN.{get_or, length}
 use Rattle.memory.specs.declared.Memory.{Memory}
-use Rattle.memory.specs.declared.Parsed.TheVariants.{Fault}
+use Rattle.std.specs.Prelude.{Err}
 use Rattle.memory.specs.declared.Challenge.{Challenge}
 use Rattle.memory.specs.declared.Report.{Report}
 use Rattle.memory.specs.declared.Stand.{Stand}
@@ -38,7 +38,7 @@ row_names_fit = lit≤ tt
 -- a row line and a value line of more than 80 bytes are 2, whatever their bytes
 cut_row : (q : ℕ) (text : List ℕ) (ended : Bool) → parse_row q (line_with (cut text) ended) ≡ parse_row q (line_with text ended)
 unfolding parse_row row_read
-cut_row q text ended = cut_reads (parse_row q) (Fault 2) (λ t e long. ap row_read (long_fields q row_fields (line_with t e) long)) text ended
+cut_row q text ended = cut_reads (parse_row q) (Err 2) (λ t e long. ap row_read (long_fields q row_fields (line_with t e) long)) text ended
 
 cut_values : (q : ℕ) (text : List ℕ) (ended : Bool) → parse_values q (line_with (cut text) ended) ≡ parse_values q (line_with text ended)
 unfolding parse_values values_read
@@ -94,8 +94,8 @@ Shuts (shut f) = eqb f 0 ≡ false
 -- a memory's name, and a whole value line
 shuts_opened : (m : Option Memory) (ns : List ℕ) → Shuts (opened_by m ns)
 unfolding opened_by
-shuts_opened none ns = refl
-shuts_opened (some m) ns = by (allowed m (get_or ns 0 0) (get_or ns 1 0)) _ _ _ _
+shuts_opened None ns = refl
+shuts_opened (Some m) ns = by (allowed m (get_or ns 0 0) (get_or ns 1 0)) _ _ _ _
   where
     by : (fine : Bool) (m' : Memory) (n t : ℕ) (ch : Challenge) → Shuts (cond fine (opens m' n t ch) (shut 4))
     by true m' n t ch = tt

@@ -7,7 +7,7 @@ use Rattle.algebra.specs.Sum.{sum, bit}
 use Rattle.memory.specs.declared.Memory.{Memory}
 use Rattle.memory.specs.declared.Memory.TheVariants.{Ram, Rom, Set, Stack, Queue}
 use Rattle.memory.specs.declared.Row.{Row}
-use Rattle.memory.specs.declared.Parsed.{Parsed}
+use Rattle.memory.specs.Faults.{Parsed}
 use Rattle.memory.specs.declared.Challenge.{Challenge}
 use Rattle.memory.specs.Bytes.{all_below}
 use Rattle.memory.specs.Rows.{allowed, operation_rows}

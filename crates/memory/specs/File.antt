@@ -1,12 +1,12 @@
 -- The whole file: from its bytes to answer, line, inputs and multiplications. Sections "The numbers" and "Files" of document 01.
 -- Assumes nothing.
 use Rattle.std.specs.Prelude.{ℕ, ◌+◌, cond, List, [], ◌∷◌, ◌++◌, map, eqb, ltb, length, get_or}
-use Rattle.std.proofs.Math.Option.{Option, none, some}
+use Rattle.std.specs.Prelude.{Option, None, Some}
 use Rattle.memory.specs.declared.Memory.{Memory}
 use Rattle.memory.specs.declared.Op.TheVariants.{Other}
 use Rattle.memory.specs.declared.Row.{Row}
-use Rattle.memory.specs.declared.Parsed.{Parsed}
-use Rattle.memory.specs.declared.Parsed.TheVariants.{Sound, Fault}
+use Rattle.memory.specs.Faults.{Parsed}
+use Rattle.std.specs.Prelude.{Ok, Err}
 use Rattle.memory.specs.declared.Challenge.{Challenge}
 use Rattle.memory.specs.declared.Report.{Report}
 use Rattle.memory.specs.Bytes.{Line, all_below, same, Fields, named, no_fields, fields_of, lines_of}
@@ -21,8 +21,8 @@ unfoldable pub no_row : Row
 no_row = record { op = Other; guard = 0; addr = 0; value = no_content; old = no_content; time = 0; version = 0 }
 
 unfoldable pub parsed_row : Parsed → Row
-parsed_row (Sound row) = row
-parsed_row (Fault f) = no_row
+parsed_row (Ok row) = row
+parsed_row (Err f) = no_row
 
 -- the rows of a list of parsed rows, and what a list of lines reads as
 unfoldable pub rows_of : List Parsed → List Row
@@ -101,8 +101,8 @@ value_fields = 7
 -- the memory, and the numbers that follow it in these fields. 4: "unknown memory, size or count not
 -- allowed"
 unfoldable pub opened_by : Option Memory → List ℕ → Opening
-opened_by none ns = shut 4
-opened_by (some m) ns =
+opened_by None ns = shut 4
+opened_by (Some m) ns =
     cond (allowed m (get_or ns 0 0) (get_or ns 1 0))
     (opens m (get_or ns 0 0) (get_or ns 1 0) (record { r = get_or ns 2 0; a = get_or ns 3 0; b = get_or ns 4 0; c = get_or ns 5 0 }))
     (shut 4)

@@ -2,6 +2,7 @@ pub mod Text
 pub mod Bytes
 pub mod Names
 pub mod Content
+pub mod Faults
 pub mod Rows
 pub mod Equations
 pub mod Gates

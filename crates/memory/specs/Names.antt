@@ -1,7 +1,7 @@
 -- The fixed byte strings of document 01: both names lines, the names of the memories and of the ops.
 -- Assumes nothing.
 use Rattle.std.specs.Prelude.{ℕ, Bool, cond, List, [], eqb}
-use Rattle.std.proofs.Math.Option.{Option, none, some}
+use Rattle.std.specs.Prelude.{Option, None, Some}
 use Rattle.memory.specs.declared.Memory.{Memory}
 use Rattle.memory.specs.declared.Memory.TheVariants.{Ram, Rom, Set, Stack, Queue}
 use Rattle.memory.specs.declared.Op.{Op}
@@ -43,7 +43,20 @@ memory_name Queue = bytes "queue"
 
 unfoldable pub memory_named : List ℕ → Option Memory
 memory_named text =
-    cond (same text (memory_name Ram)) (some Ram) (cond (same text (memory_name Rom)) (some Rom) (cond (same text (memory_name Set)) (some Set) (cond (same text (memory_name Stack)) (some Stack) (cond (same text (memory_name Queue)) (some Queue) none))))
+    cond (same text (memory_name Ram)) (Some Ram) (cond (same text (memory_name Rom)) (Some Rom) (cond (same text (memory_name Set)) (Some Set) (cond (same text (memory_name Stack)) (Some Stack) (cond (same text (memory_name Queue)) (Some Queue) None))))
+
+-- the number of a memory in the calls of the filler's library, and the memory that a number stands
+-- for
+unfoldable pub memory_code : Memory → ℕ
+memory_code Ram = 0
+memory_code Rom = 1
+memory_code Set = 2
+memory_code Stack = 3
+memory_code Queue = 4
+
+unfoldable pub memory_coded : ℕ → Option Memory
+memory_coded k =
+    cond (eqb k 0) (Some Ram) (cond (eqb k 1) (Some Rom) (cond (eqb k 2) (Some Set) (cond (eqb k 3) (Some Stack) (cond (eqb k 4) (Some Queue) None))))
 
 -- the ops, as the rows name them; `Other` has no name
 unfoldable pub op_name : Op → List ℕ

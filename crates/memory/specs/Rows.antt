@@ -10,8 +10,8 @@ use Rattle.memory.specs.declared.Op.TheVariants.{Init, Access, Look, Member, Pus
 use Rattle.memory.specs.declared.Phase.{Phase}
 use Rattle.memory.specs.declared.Phase.TheVariants.{Starting, Operating, Ending, Ranging, Over}
 use Rattle.memory.specs.declared.Row.{Row}
-use Rattle.memory.specs.declared.Parsed.{Parsed}
-use Rattle.memory.specs.declared.Parsed.TheVariants.{Sound, Fault}
+use Rattle.memory.specs.Faults.{Parsed}
+use Rattle.std.specs.Prelude.{Ok, Err}
 use Rattle.memory.specs.Bytes.{Line, all_below, Fields, named, no_fields, fields_of}
 use Rattle.memory.specs.Names.{op_named, is_op}
 use Rattle.memory.specs.Content.{Content, content_of, number_of}
@@ -164,8 +164,8 @@ row_with o ns =
 
 -- what the fields of a row line stand for: the row whose op has that name, or the line's fault
 unfoldable pub row_read : Fields → Parsed
-row_read (named name ns) = Sound (row_with (op_named name) ns)
-row_read (no_fields f) = Fault f
+row_read (named name ns) = Ok (row_with (op_named name) ns)
+row_read (no_fields f) = Err f
 
 -- what a row line reads as
 unfoldable pub parse_row : ℕ → Line → Parsed
@@ -222,8 +222,8 @@ unread_fault f = cond (eqb f 3) 3 2
 
 -- the fault of what a line reads as, "on one line, table order": a row with a number of q or more is 3, before 5 and 6
 unfoldable pub parsed_fault : ℕ → Memory → ℕ → ℕ → List Row → Parsed → ℕ
-parsed_fault q m n t rows (Sound row) = cond (row_below q row) (row_fault q m n t rows row) 3
-parsed_fault q m n t rows (Fault f) = unread_fault f
+parsed_fault q m n t rows (Ok row) = cond (row_below q row) (row_fault q m n t rows row) 3
+parsed_fault q m n t rows (Err f) = unread_fault f
 
 -- the fault of a line after the rows that have passed, or 0: "a surplus line is 7 without being read"
 unfoldable pub line_fault : ℕ → Memory → ℕ → ℕ → List Row → Parsed → ℕ

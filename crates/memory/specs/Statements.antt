@@ -4,8 +4,8 @@ use Rattle.std.specs.Prelude.{ℕ, ◌+◌, ◌-◌, ◌≤◌, ◌≡◌, ◌�
 use Rattle.memory.specs.declared.Memory.{Memory}
 use Rattle.memory.specs.declared.Op.TheVariants.{Push, Pop, Enqueue, Dequeue}
 use Rattle.memory.specs.declared.Row.{Row}
-use Rattle.memory.specs.declared.Parsed.{Parsed}
-use Rattle.memory.specs.declared.Parsed.TheVariants.{Sound}
+use Rattle.memory.specs.Faults.{Parsed}
+use Rattle.std.specs.Prelude.{Ok}
 use Rattle.memory.specs.declared.Challenge.{Challenge}
 use Rattle.memory.specs.declared.State.{State}
 use Rattle.memory.specs.declared.Report.{Report}
@@ -71,7 +71,7 @@ abbrev pub FaultByForm : Type 0
 FaultByForm =
     (q : ℕ) (m : Memory) (n t : ℕ) (rows : List Row) (x y : Row) → x.op ≡ y.op → x.guard ≡ y.guard
     → (row_below q x ≡ true) × (formed m x ≡ true) → (row_below q y ≡ true) × (formed m y ≡ true)
-    → line_fault q m n t rows (Sound x) ≡ line_fault q m n t rows (Sound y)
+    → line_fault q m n t rows (Ok x) ≡ line_fault q m n t rows (Ok y)
 
 -- "After a refusal or the end of file a state is fixed": rows and ends leave it as it is. (Fold: fixed_state)
 abbrev pub FixedState : Type 0

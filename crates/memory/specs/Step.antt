@@ -10,8 +10,8 @@ use Rattle.memory.specs.declared.Op.{Op}
 use Rattle.memory.specs.declared.Op.TheVariants.{Init, Access, Look, Member, Push, Pop, Enqueue, Dequeue, End, Range, Other}
 use Rattle.memory.specs.declared.Phase.{Phase}
 use Rattle.memory.specs.declared.Row.{Row}
-use Rattle.memory.specs.declared.Parsed.{Parsed}
-use Rattle.memory.specs.declared.Parsed.TheVariants.{Sound, Fault}
+use Rattle.memory.specs.Faults.{Parsed}
+use Rattle.std.specs.Prelude.{Ok, Err}
 use Rattle.memory.specs.declared.Challenge.{Challenge}
 use Rattle.memory.specs.declared.Context.{Context}
 use Rattle.memory.specs.declared.Products.{Products}
@@ -203,8 +203,8 @@ take_row q s row =
 
 -- what a line reads as: a row with a number of q or more is 3
 unfoldable pub take_parsed : ℕ → State → Parsed → State
-take_parsed q s (Sound row) = cond (row_below q row) (take_row q s row) (with_context s (refuse_next s.context 3))
-take_parsed q s (Fault f) = with_context s (refuse_next s.context (unread_fault f))
+take_parsed q s (Ok row) = cond (row_below q row) (take_row q s row) (with_context s (refuse_next s.context 3))
+take_parsed q s (Err f) = with_context s (refuse_next s.context (unread_fault f))
 
 -- one row. "After a refusal or the end of file a state is fixed"; a surplus row is 7
 unfoldable pub step_of : ℕ → State → Parsed → State

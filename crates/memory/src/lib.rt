@@ -1,10 +1,12 @@
-// The types that the definitions of document 01 and the code share. There is no code here: definitions and statements are in specs/, proofs in proofs/.
+// The types that the definitions of document 01 and the code share, and the numbers of its faults.
+// Definitions and statements are in specs/, proofs in proofs/.
 #![tactic(auto)]
 
 use field::moduli::Modulus;
 
+pub mod codes;
+pub mod faults;
 pub mod names;
-pub mod numbers;
 
 // Names line, value line and names line come before the rows, which begin on line 4.
 pub const HEAD_LINES: u32 = 3;
@@ -22,7 +24,7 @@ pub enum Memory {
 }
 
 // The op of a row; `Other` is any name that document 01 does not have.
-#[derive(Clone, Copy)]
+#[derive(Clone, Copy, PartialEq, Eq)]
 pub enum Op {
     Init,
     Access,
@@ -68,11 +70,13 @@ pub struct Challenge {
     pub c: u64,
 }
 
-// What a row line reads as: a row, or its fault 2 or 3.
+// The values of a value line.
 #[derive(Clone, Copy)]
-pub enum Parsed {
-    Sound(Row),
-    Fault(u32),
+pub struct Values {
+    pub memory: Memory,
+    pub size: u32,
+    pub count: u32,
+    pub challenge: Challenge,
 }
 
 // The part of a checker's state that no challenge enters.
@@ -90,7 +94,8 @@ pub struct Context {
     pub depths: u64,
     pub inputs: u32,
     pub mults: u32,
-    // the refusal and its line; 0 and 0 where there is none
+    // the refusal and its line; 0 and 0 where there is none. Any numbers stand here, as in a state
+    // that is forged: what is promised is promised of those too
     pub answer: u32,
     pub line: u32,
     // the end of file has come
@@ -134,7 +139,7 @@ pub struct Report {
 // What the lines of a checked file leave.
 #[derive(Clone, Copy)]
 pub struct Stand {
-    // the number of the next line, FIRST_LINE for all rows
+    // the number of the next line, FIRST_LINE for all rows; any number, as of a forged stand
     pub place: u32,
     pub state: State,
 }

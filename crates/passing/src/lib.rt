@@ -1,42 +1,37 @@
 // What a row that has passed changes of the context: counters, the queue's product of depths, gates; and the fault of a row.
 #![tactic(auto)]
 
-ghost use Rattle.std.specs.Prelude.{◌≡◌, ◌&&◌, ◌+◌, eqb, leb};
+ghost use Rattle.std.specs.Prelude.{◌≡◌, ◌&&◌, ◌+◌, eqb, leb, IfOk};
 ghost use Rattle.algebra.specs.Modulo.{times};
 ghost use Rattle.field.specs.Moduli.{modulus_of};
 ghost use Rattle.memory.specs.Rows.{raise_by, lower_by, depth_factor};
+ghost use Rattle.memory.specs.Faults.{fault_of};
 ghost use Rattle.memory.specs.Step.{pass, sinks, step_fault};
 
 use field::moduli::Modulus;
-use memory::{Context, Memory, Op, Row, numbers};
-use rules::{columns, counters, ops};
-
-// What becomes of a row: its fault, or 0, and the context after it.
-#[derive(Clone, Copy)]
-pub struct Judged {
-    pub fault: u32,
-    pub next: Context,
-}
+use memory::faults::Fault;
+use memory::{Context, Memory, Op, Row};
+use rules::{columns, counters};
 
 // By how much a row raises the depth: "Push adds guard to depth", "Enqueue adds guard to depth".
+#[tactic(auto, unfolding(memory::specs::Rows::raise_by, memory::specs::Names::is_op, memory::specs::Names::op_code))]
 fn rises(op: Op, guard: u64) -> u64
     ensures { result ≡ raise_by op guard }
 {
-    if ops::is(op, Op::Push) | ops::is(op, Op::Enqueue) {
-        guard
-    } else {
-        0
+    match op {
+        Op::Push | Op::Enqueue => guard,
+        _ => 0,
     }
 }
 
 // By how much a row lowers the depth: a pop or a dequeue subtracts guard.
+#[tactic(auto, unfolding(memory::specs::Rows::lower_by, memory::specs::Names::is_op, memory::specs::Names::op_code))]
 fn falls(op: Op, guard: u64) -> u64
     ensures { result ≡ lower_by op guard }
 {
-    if ops::is(op, Op::Pop) | ops::is(op, Op::Dequeue) {
-        guard
-    } else {
-        0
+    match op {
+        Op::Pop | Op::Dequeue => guard,
+        _ => 0,
     }
 }
 
@@ -45,7 +40,7 @@ fn depths(k: Modulus, c: Context, row: Row) -> u64
     ensures { result ≡ times (modulus_of k) c.depths (depth_factor (modulus_of k) c.pushed c.popped row) }
 {
     let op = row.op;
-    if ops::is(op, Op::Dequeue) {
+    if op == Op::Dequeue {
         let up = k.add(c.pushed as u64, 1);
         let down = k.add(c.popped as u64, row.guard);
         k.mul(c.depths, k.sub(up, down))
@@ -57,36 +52,30 @@ fn depths(k: Modulus, c: Context, row: Row) -> u64
 }
 
 // The context after a row.
-fn pass(k: Modulus, c: Context, row: Row) -> Context
+#[tactic(auto, unfolding(memory::specs::Step::pass))]
+pub fn pass(k: Modulus, c: Context, row: Row) -> Context
     ensures { result ≡ pass (modulus_of k) c row }
 {
-    let memory = c.memory;
     let op = row.op;
     Context {
-        memory,
-        size: c.size,
-        count: c.count,
         passed: counters::raise(c.passed, 1),
         pushed: counters::raise(c.pushed, rises(op, row.guard)),
         popped: counters::raise(c.popped, falls(op, row.guard)),
         depths: depths(k, c, row),
-        inputs: counters::raise(c.inputs, gates::inputs(memory, op) as u64),
-        mults: counters::raise(c.mults, gates::mults(memory, op) as u64),
-        answer: c.answer,
-        line: c.line,
-        ended: c.ended,
+        inputs: counters::raise(c.inputs, gates::inputs(c.memory, op) as u64),
+        mults: counters::raise(c.mults, gates::mults(c.memory, op) as u64),
+        ..c
     }
 }
 
 // 8, of the context after a row: "the queue's depth product is 0, or the stack's depth is below 0".
+#[tactic(auto, unfolding(memory::specs::Step::sinks))]
 fn sinks(c: Context) -> bool
     ensures { result ≡ sinks c }
 {
     let memory = c.memory;
     match memory {
-        Memory::Ram => false,
-        Memory::Rom => false,
-        Memory::Set => false,
+        Memory::Ram | Memory::Rom | Memory::Set => false,
         Memory::Stack => c.pushed < c.popped,
         Memory::Queue => c.depths == 0,
     }
@@ -99,33 +88,31 @@ fn last_operation(c: Context) -> bool
     (1 <= c.count) & (c.passed as u64 + 1 == c.size as u64 + c.count as u64)
 }
 
-// The fault of the next row, or 0, where `next` is the context after it: 5, then 6, and at the last operation 8.
-fn fault(k: Modulus, c: Context, row: Row, next: Context) -> u32
+// The fault of the next row, where `next` is the context after it: 5, then 6, and at the last
+// operation 8.
+#[tactic(auto, unfolding(memory::specs::Step::step_fault))]
+fn fault(k: Modulus, c: Context, row: Row, next: Context) -> Result<(), Fault>
     requires { next ≡ pass (modulus_of k) c row }
-    ensures { result ≡ step_fault (modulus_of k) c row }
+    ensures { fault_of result ≡ step_fault (modulus_of k) c row }
 {
-    let memory = c.memory;
-    let op = row.op;
-    if !due::admits(c, op) {
-        return numbers::NOT_DUE;
+    if !due::admits(c, row.op) {
+        return Err(Fault::NotDue);
     }
-    if !columns::formed(memory, row) {
-        return numbers::NOT_FORMED;
+    if !columns::formed(c.memory, row) {
+        return Err(Fault::NotFormed);
     }
     if last_operation(c) & sinks(next) {
-        numbers::BELOW_EMPTY
-    } else {
-        0
+        return Err(Fault::BelowEmpty);
     }
+    Ok(())
 }
 
-// The next row: its fault, or 0, and the context after it.
-pub fn judge(k: Modulus, c: Context, row: Row) -> Judged
-    ensures { (result.fault ≡ step_fault (modulus_of k) c row) × (result.next ≡ pass (modulus_of k) c row) }
+// The next row: the context after it, or its fault.
+pub fn judge(k: Modulus, c: Context, row: Row) -> Result<Context, Fault>
+    ensures fault { fault_of result ≡ step_fault (modulus_of k) c row }
+    ensures next { IfOk result (λ next. next ≡ pass (modulus_of k) c row) }
 {
     let next = pass(k, c, row);
-    Judged {
-        fault: fault(k, c, row, next),
-        next,
-    }
+    fault(k, c, row, next)?;
+    Ok(next)
 }

@@ -14,7 +14,7 @@ use Rattle.memory.proofs.Pieces.{line_with, Settled, settled_line, settled_bytes
 use Rattle.pieces.specs.Block.{rest_of, fronted, LinesTaken}
 use Rattle.pieces.specs.Calls.{Left, started, stands_for, filled_read, Advanced, Call, Calls, joined, last_left}
 use Rattle.pieces.specs.Statements.{CallsRead}
-use Rattle.pieces.proofs.Parts.{take_within}
+use Rattle.std.proofs.lemmas.List.{take_min}
 use Rattle.pieces.proofs.Feeds.{block_read}
 
 -- the last line, where the input ends between two lines, and where it does not
@@ -45,7 +45,7 @@ module _ {S : Type 0} (line : S → Line → S)
     filled_read_lem : filled_read line s filled buffer ≡ piece r (rest_of used end buffer)
     unfolding filled_read rest_of
     filled_read_lem =
-        ap (bytes_in line (piece s [])) (sym (take_within filled buffer) ∙ ap (λ (n : ℕ). take n buffer) (sym ends))
+        ap (bytes_in line (piece s [])) (sym (take_min filled buffer) ∙ ap (λ (n : ℕ). take n buffer) (sym ends))
         ∙ block_read line kept s r (take end buffer) used t.lines t.rest
 
     rest_short : (length (rest_of used end buffer) ≤ 81) × (length (rest_of used end buffer) ≤ length buffer)
@@ -76,7 +76,7 @@ module _ {S : Type 0} (line : S → Line → S) where
       rw (a.known, a.count, a.buffer) (ap (piece v.known) (take-append_seam v.pending (drop (length v.pending) before)))
 
   -- one call more
-  call_more : (s : S) (seen : List ℕ) (l : Left S) → stands_for l ≡ bytes_in line (piece s []) seen → (c : Call S)
+  pub call_more : (s : S) (seen : List ℕ) (l : Left S) → stands_for l ≡ bytes_in line (piece s []) seen → (c : Call S)
       → take c.filled c.buffer ≡ take l.kept l.buffer ++ c.bytes → Advanced line l.known c.filled c.buffer c.left
       → stands_for c.left ≡ bytes_in line (piece s []) (seen ++ c.bytes)
   unfolding filled_read stands_for piece

@@ -2,33 +2,26 @@
 -- Assumes nothing.
 use Prim.Native.Nat.{ℕ, suc, ◌+◌, ◌-◌, ◌≤◌, ◌<◌}
 use native.Mathlib.Nat.{not-suc-le-zero, le_of_suc-le-suc}
-use native.Mathlib.Numerals.{add-one}
 use native.Mathlib.Omega.{arith}
 use mathlib.Core.Path.{◌≡◌, refl, sym, ◌∙◌, ap}
 use mathlib.Core.Bool.{Bool, true, false, cond}
 use mathlib.Core.List.{List, [], ◌∷◌, ◌++◌, append_assoc, append-nil}
 use lib.Dec.{eqb}
-use lib.ListN.{length, take, drop, get_or, drop_of_length-le, length-drop, take-append-drop}
-use lib.Seq.{drop-cons, take-add}
+use lib.ListN.{length, take, drop, length-drop, take-append-drop}
+use lib.Seq.{take-add}
+use Rattle.std.specs.List.{position_or_len}
+use Rattle.std.proofs.lemmas.List.Recursion.{is_position_or_len}
 use Rattle.memory.specs.Bytes.{Line, feed, longest}
 use Rattle.memory.specs.Pieces.{cut, Piece, piece, byte_in, bytes_in}
 use Rattle.memory.proofs.Pieces.{line_with, pieces_cut, byte_feeds, byte_kept}
 use Rattle.pieces.specs.Block.{until_feed}
 
--- the first line feed from a position on: at it, before it, and past the end
-pub feed_here : (block : List ℕ) (i : ℕ) → i < length block → eqb (get_or block i 0) feed ≡ true → until_feed (drop i block) ≡ 0
+-- the first line feed is the first byte that is one
+pub until_feed_is : (xs : List ℕ) → until_feed xs ≡ position_or_len (λ b. eqb b feed) xs
 unfolding until_feed
-feed_here block i h e = rw (drop-cons block i 0 h) (rw e refl)
+until_feed_is = is_position_or_len until_feed (λ b. eqb b feed) refl (λ b bs. ap (λ (n : ℕ). cond (eqb b feed) 0 n) (omega arith))
 
-pub feed_later : (block : List ℕ) (i : ℕ) → i < length block → eqb (get_or block i 0) feed ≡ false
-    → until_feed (drop i block) ≡ suc (until_feed (drop (i + 1) block))
-unfolding until_feed
-feed_later block i h e = rw (add-one i, drop-cons block i 0 h) (rw e refl)
-
-pub feed_none : (block : List ℕ) (i : ℕ) → length block ≤ i → until_feed (drop i block) ≡ 0
-unfolding until_feed
-feed_none block i h = rw (drop_of_length-le block h) refl
-
+-- it stands in the text, or at its end
 pub feed_within : (xs : List ℕ) → until_feed xs ≤ length xs
 unfolding until_feed
 feed_within [] = omega arith

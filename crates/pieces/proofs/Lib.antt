@@ -1,4 +1,3 @@
-pub mod Parts
 pub mod Feeds
 pub mod Block
 pub mod Calls

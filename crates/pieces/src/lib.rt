@@ -11,17 +11,11 @@ pub const KEPT: usize = fields::LONGEST + 1;
 const FEED: u8 = 10;
 
 // The position of the first line feed from a position on. Where there is none, it is the block's length, or the position itself where that lies past the block.
+#[tactic(auto, unfolding(memory::specs::Bytes::feed), using(crate::proofs::Feeds::until_feed_is))]
 pub fn feed_from(block: &[u8], from: usize) -> usize
     ensures { result ≡ from + until_feed (drop from block.now) }
 {
-    let mut i = from;
-    while i < block.len() {
-        if block[i] == FEED {
-            return i;
-        }
-        i += 1;
-    }
-    i
+    decimal::position_from(block, FEED, from)
 }
 
 // Moves an unfinished line, the bytes from a position up to an end, to the front of the buffer, as far as it is kept: how many bytes are kept. What stands
@@ -30,15 +24,11 @@ pub fn keep(buf: &mut [u8], from: usize, end: usize) -> usize
     ensures count { result ≡ length (rest_of from end buf.old) }
     ensures slice { buf.new ≡ fronted (rest_of from end buf.old) buf.old }
 {
-    let last = decimal::smaller(end, buf.len());
+    let last = end.min(buf.len());
     if last <= from {
         return 0;
     }
-    let count = decimal::smaller(last - from, KEPT);
-    let mut i = 0;
-    while i < count {
-        buf[i] = buf[from + i];
-        i += 1;
-    }
+    let count = (last - from).min(KEPT);
+    buf.copy_within(from..from + count, 0);
     count
 }

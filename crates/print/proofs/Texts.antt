@@ -1,16 +1,15 @@
 -- The texts of rows, reports and refusals as the parts that are put one after another, and two
 -- texts of document 01.
 -- Assumes nothing.
-use mathlib.Core.Path.{◌≡◌, refl, ap, ◌∙◌}
+use mathlib.Core.Path.{◌≡◌, refl, sym, ap}
 use mathlib.Core.List.{List, [], ◌∷◌, ◌++◌, append_assoc}
 use Prim.Native.Nat.{ℕ}
 use Rattle.memory.specs.declared.Op.TheVariants.{Access}
 use Rattle.memory.specs.declared.Row.{Row}
-use Rattle.memory.specs.declared.Report.{Report}
 use Rattle.memory.specs.Text.{bytes}
 use Rattle.memory.specs.Bytes.{comma, feed}
-use Rattle.memory.specs.Names.{op_name, report_names, refusal_names}
-use Rattle.memory.specs.Print.{digits_onto, number_text, numbers_text, row_text, report_text, refusal_text}
+use Rattle.memory.specs.Names.{op_name, report_names}
+use Rattle.memory.specs.Print.{digits_onto, number_text, numbers_text, row_text, report_text}
 use Rattle.print.specs.Rows.{columns_text}
 
 -- numbers with commas between are the first one, and a comma before each of the others
@@ -20,29 +19,16 @@ numbers_columns x [] = refl
 numbers_columns x (y ∷ ys) = ap (λ (t : List ℕ). number_text x ++ comma ∷ t) (numbers_columns y ys)
 
 pub row_parts : (row : Row)
-    → op_name row.op ++ columns_text (row.guard ∷ row.addr ∷ row.value ∷ row.old ∷ row.time ∷ row.version ∷ [])
-    ≡ row_text row
+    → row_text row
+    ≡ op_name row.op ++ columns_text (row.guard ∷ row.addr ∷ row.value ∷ row.old ∷ row.time ∷ row.version ∷ [])
 unfolding row_text columns_text
 row_parts row =
     ap (λ (t : List ℕ). op_name row.op ++ comma ∷ t)
-    (numbers_columns row.guard (row.addr ∷ row.value ∷ row.old ∷ row.time ∷ row.version ∷ []))
+    (sym (numbers_columns row.guard (row.addr ∷ row.value ∷ row.old ∷ row.time ∷ row.version ∷ [])))
 
 -- a names line and a line of numbers
-two_lines : (names : List ℕ) (x : ℕ) (ns : List ℕ) → names ++ (feed ∷ []) ++ number_text x ++ columns_text ns ≡ names ++ feed ∷ numbers_text x ns
-two_lines names x ns =
-    append_assoc (names ++ (feed ∷ [])) (number_text x) (columns_text ns)
-    ∙ ap (λ (t : List ℕ). names ++ (feed ∷ []) ++ t) (numbers_columns x ns)
-    ∙ append_assoc names (feed ∷ []) (numbers_text x ns)
-
-pub report_parts : (r : Report)
-    → report_names ++ (feed ∷ []) ++ number_text r.answer ++ columns_text (r.line ∷ r.inputs ∷ r.mults ∷ []) ≡ report_text r
-unfolding report_text
-report_parts r = two_lines report_names r.answer (r.line ∷ r.inputs ∷ r.mults ∷ [])
-
-pub refusal_parts : (answer line : ℕ)
-    → refusal_names ++ (feed ∷ []) ++ number_text answer ++ columns_text (line ∷ []) ≡ refusal_text answer line
-unfolding refusal_text
-refusal_parts answer line = two_lines refusal_names answer (line ∷ [])
+pub two_lines : (names : List ℕ) (x : ℕ) (ns : List ℕ) → names ++ feed ∷ numbers_text x ns ≡ names ++ (feed ∷ []) ++ number_text x ++ columns_text ns
+two_lines names x ns = simp (append_assoc, numbers_columns x ns)
 
 -- document 01's example, and its first access row
 pub report_example : report_text (record { answer = 0; line = 0; inputs = 12; mults = 16 }) ≡ bytes "answer,line,inputs,mults" ++ feed ∷ (bytes "0,0,12,16" ++ feed ∷ [])

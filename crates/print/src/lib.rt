@@ -5,24 +5,17 @@
 ghost use Rattle.std.specs.Prelude.{◌≡◌, ◌<◌, [], ◌∷◌, ◌++◌, length};
 ghost use Rattle.memory.specs.Bytes.{feed};
 ghost use Rattle.memory.specs.Names.{op_name, row_names};
-ghost use Rattle.memory.specs.Print.{row_text, report_text, refusal_text};
+ghost use Rattle.memory.specs.Print.{numbers_text, row_text, report_text, refusal_text};
 ghost use Rattle.text.specs.Put.{put_of, put_after, written, written_after};
 ghost use Rattle.print.specs.Rows.{columns_text, cell_in, row_in};
 
 use memory::names::{REFUSAL_NAMES, REPORT_NAMES, ROW_NAMES};
 use memory::{Op, Report, Row};
-use rules::ops;
-use text::{Put, bytes, more, more_number};
-
-// The ops as the rows name them, in the order of their numbers: 7 bytes for each, of which its name
-// takes the first. The op that is none of these has no name.
-const OP_NAMES: [u8; 70] =
-    *b"init   access look   member push   pop    enqueuedequeueend    range  ";
-
-const NAME_LENGTHS: [usize; 11] = [4, 6, 4, 6, 4, 3, 7, 7, 3, 5, 0];
+use text::{bytes, more, more_number};
 
 // Puts a line feed after what was put before.
-fn end_line(buf: &mut [u8], prior: Put) -> Put
+#[tactic(auto, unfolding(memory::specs::Bytes::feed))]
+fn end_line(buf: &mut [u8], prior: Option<usize>) -> Option<usize>
     ensures answer { result ≡ put_after (length buf.old) prior (feed ∷ []) }
     ensures slice { buf.new ≡ written_after buf.old prior (feed ∷ []) }
 {
@@ -30,22 +23,22 @@ fn end_line(buf: &mut [u8], prior: Put) -> Put
 }
 
 // Puts numbers, a comma before each, and a line feed after what was put before.
-fn columns(buf: &mut [u8], prior: Put, ns: &[u64]) -> Put
+#[tactic(auto, unfolding(memory::specs::Bytes::comma), using(text::proofs::Written::puts, crate::proofs::Numbers::columns_from, crate::proofs::Numbers::columns_over))]
+fn columns(buf: &mut [u8], prior: Option<usize>, ns: &[u64]) -> Option<usize>
     ensures answer { result ≡ put_after (length buf.old) prior (columns_text ns.now) }
     ensures slice { buf.new ≡ written_after buf.old prior (columns_text ns.now) }
 {
     let mut end = prior;
-    let mut i = 0;
-    while i < ns.len() {
+    for n in ns {
         end = more(buf, end, b",");
-        end = more_number(buf, end, ns[i]);
-        i += 1;
+        end = more_number(buf, end, *n);
     }
     end_line(buf, end)
 }
 
 // Puts bytes and a line feed.
-fn line(buf: &mut [u8], at: usize, text: &[u8]) -> Put
+#[tactic(auto, using(text::proofs::Written::puts))]
+fn line(buf: &mut [u8], at: usize, text: &[u8]) -> Option<usize>
     ensures answer { result ≡ put_of (length buf.old) at (text.now ++ feed ∷ []) }
     ensures slice { buf.new ≡ written buf.old at (text.now ++ feed ∷ []) }
 {
@@ -53,24 +46,33 @@ fn line(buf: &mut [u8], at: usize, text: &[u8]) -> Put
     end_line(buf, end)
 }
 
-// Puts the name of an op.
-fn op_name(buf: &mut [u8], at: usize, op: Op) -> Put
-    ensures answer { result ≡ put_of (length buf.old) at (op_name op) }
-    ensures slice { buf.new ≡ written buf.old at (op_name op) }
+// The name of an op, as the rows have it; the op that is none of document 01's has no name.
+#[tactic(auto, unfolding(memory::specs::Names::op_name, memory::specs::Text::bytes))]
+fn op_text(op: Op) -> &'static [u8]
+    ensures { result.now ≡ op_name op }
 {
-    let k = ops::code(op) as usize;
-    let from = 7 * k;
-    let end = from + NAME_LENGTHS[k];
-    bytes(buf, at, &OP_NAMES[from..end])
+    match op {
+        Op::Init => b"init",
+        Op::Access => b"access",
+        Op::Look => b"look",
+        Op::Member => b"member",
+        Op::Push => b"push",
+        Op::Pop => b"pop",
+        Op::Enqueue => b"enqueue",
+        Op::Dequeue => b"dequeue",
+        Op::End => b"end",
+        Op::Range => b"range",
+        Op::Other => b"",
+    }
 }
 
 // Puts a row as its line.
-pub fn row(buf: &mut [u8], at: usize, row: Row) -> Put
+#[tactic(auto, using(text::proofs::Written::puts, crate::proofs::Texts::row_parts))]
+pub fn row(buf: &mut [u8], at: usize, row: Row) -> Option<usize>
     ensures answer { result ≡ put_of (length buf.old) at (row_text row) }
     ensures slice { buf.new ≡ written buf.old at (row_text row) }
 {
-    let op = row.op;
-    let end = op_name(buf, at, op);
+    let end = bytes(buf, at, op_text(row.op));
     columns(
         buf,
         end,
@@ -86,53 +88,67 @@ pub fn row(buf: &mut [u8], at: usize, row: Row) -> Put
 }
 
 // Puts the names line of the rows.
-pub fn row_names(buf: &mut [u8], at: usize) -> Put
+#[tactic(auto, unfolding(memory::specs::Names::row_names, memory::specs::Text::bytes))]
+pub fn row_names(buf: &mut [u8], at: usize) -> Option<usize>
     ensures answer { result ≡ put_of (length buf.old) at (row_names ++ feed ∷ []) }
     ensures slice { buf.new ≡ written buf.old at (row_names ++ feed ∷ []) }
 {
     line(buf, at, &ROW_NAMES)
 }
 
+// Puts a names line and a line of numbers with commas between.
+#[tactic(auto, using(text::proofs::Written::puts, crate::proofs::Texts::two_lines))]
+fn two_lines(buf: &mut [u8], at: usize, names: &[u8], first: u64, others: &[u64]) -> Option<usize>
+    ensures answer { result ≡ put_of (length buf.old) at (names.now ++ feed ∷ numbers_text first others.now) }
+    ensures slice { buf.new ≡ written buf.old at (names.now ++ feed ∷ numbers_text first others.now) }
+{
+    let end = line(buf, at, names);
+    let end = more_number(buf, end, first);
+    columns(buf, end, others)
+}
+
 // Puts the two lines of a report.
-pub fn report(buf: &mut [u8], at: usize, report: Report) -> Put
+#[tactic(auto, unfolding(memory::specs::Print::report_text, memory::specs::Names::report_names, memory::specs::Text::bytes))]
+pub fn report(buf: &mut [u8], at: usize, report: Report) -> Option<usize>
     ensures answer { result ≡ put_of (length buf.old) at (report_text report) }
     ensures slice { buf.new ≡ written buf.old at (report_text report) }
 {
-    let end = line(buf, at, &REPORT_NAMES);
-    let end = more_number(buf, end, report.answer);
-    columns(buf, end, &[report.line, report.inputs, report.mults])
+    let others = [report.line, report.inputs, report.mults];
+    two_lines(buf, at, &REPORT_NAMES, report.answer, &others)
 }
 
 // Puts the two lines of the filler's refusal.
-pub fn refusal(buf: &mut [u8], at: usize, answer: u32, place: u32) -> Put
+#[tactic(auto, unfolding(memory::specs::Print::refusal_text, memory::specs::Names::refusal_names, memory::specs::Text::bytes))]
+pub fn refusal(buf: &mut [u8], at: usize, answer: u32, place: u32) -> Option<usize>
     ensures answer { result ≡ put_of (length buf.old) at (refusal_text answer place) }
     ensures slice { buf.new ≡ written buf.old at (refusal_text answer place) }
 {
-    let end = line(buf, at, &REFUSAL_NAMES);
-    let end = more_number(buf, end, answer as u64);
-    columns(buf, end, &[place as u64])
+    two_lines(
+        buf,
+        at,
+        &REFUSAL_NAMES,
+        u64::from(answer),
+        &[u64::from(place)],
+    )
 }
 
 // The number in a column of the row at place k of a slice of output rows, 7 numbers a row; 0 where
 // there is none.
+#[tactic(auto, unfolding(crate::specs::Rows::cell_in))]
 fn cell(rows: &[u64], k: usize, column: usize) -> u64
-    requires { column < 7 }
     ensures { result ≡ cell_in rows.now k column }
 {
-    if rows.len() <= k {
-        return 0;
-    }
-    let i = k * 7 + column;
-    if i < rows.len() { rows[i] } else { 0 }
+    let place = k.saturating_mul(7).saturating_add(column);
+    rows.get(place).copied().unwrap_or(0)
 }
 
 // The row at place k of a slice of output rows.
+#[tactic(auto, unfolding(crate::specs::Rows::row_in))]
 fn row_in(rows: &[u64], k: usize) -> Row
     ensures { result ≡ row_in rows.now k }
 {
-    let code = cell(rows, k, 0);
     Row {
-        op: ops::coded(code),
+        op: Op::from(cell(rows, k, 0)),
         guard: cell(rows, k, 1),
         addr: cell(rows, k, 2),
         value: cell(rows, k, 3),
@@ -143,10 +159,9 @@ fn row_in(rows: &[u64], k: usize) -> Row
 }
 
 // Puts the row at place k of a slice of output rows.
-pub fn filled_row(buf: &mut [u8], at: usize, rows: &[u64], k: usize) -> Put
+pub fn filled_row(buf: &mut [u8], at: usize, rows: &[u64], k: usize) -> Option<usize>
     ensures answer { result ≡ put_of (length buf.old) at (row_text (row_in rows.now k)) }
     ensures slice { buf.new ≡ written buf.old at (row_text (row_in rows.now k)) }
 {
-    let found = row_in(rows, k);
-    row(buf, at, found)
+    row(buf, at, row_in(rows, k))
 }

@@ -13,6 +13,7 @@ ghost use Rattle.field.specs.Moduli.{modulus_of};
 ghost use Rattle.memory.specs.Equations.{triple, pair, factor};
 
 // A product times the factor of a triple.
+#[tactic(auto, unfolding(field::specs::Field::mul_of, field::specs::Field::triple_of, memory::specs::Equations::triple, memory::specs::Equations::factor))]
 pub fn by_triple(k: Modulus, ch: Challenge, product: u64, x: u64, y: u64, z: u64) -> u64
     ensures { result ≡ times (modulus_of k) product (factor (modulus_of k) ch (triple x y z)) }
 {
@@ -20,6 +21,7 @@ pub fn by_triple(k: Modulus, ch: Challenge, product: u64, x: u64, y: u64, z: u64
 }
 
 // A product times the factor of a pair.
+#[tactic(auto, unfolding(field::specs::Field::mul_of), using(crate::proofs::Reduced::pair_factor))]
 pub fn by_pair(k: Modulus, ch: Challenge, product: u64, x: u64, y: u64) -> u64
     ensures { result ≡ times (modulus_of k) product (factor (modulus_of k) ch (pair x y)) }
 {

@@ -16,6 +16,8 @@ pub(crate) struct Used {
     pub version: bool,
 }
 
+// In the definition's own form, `columns guard addr value old time version`.
+#[tactic(auto, unfolding(crate::specs::Columns::columns_of, memory::specs::Rows::columns))]
 fn columns(guard: bool, addr: bool, value: bool, old: bool, time: bool, version: bool) -> Used
     ensures { columns_of result ≡ columns guard addr value old time version }
 {
@@ -30,6 +32,7 @@ fn columns(guard: bool, addr: bool, value: bool, old: bool, time: bool, version:
 }
 
 // The columns used, by memory and op.
+#[tactic(auto, unfolding(memory::specs::Rows::used))]
 fn of(memory: Memory, op: Op) -> Used
     ensures { columns_of result ≡ used memory op }
 {
@@ -38,15 +41,12 @@ fn of(memory: Memory, op: Op) -> Used
         Op::Access => columns(true, true, true, true, true, true),
         Op::Look => columns(false, true, false, true, false, true),
         Op::Member => columns(false, false, true, false, false, true),
-        Op::Push => columns(true, false, true, false, false, false),
+        Op::Push | Op::Enqueue => columns(true, false, true, false, false, false),
         Op::Pop => columns(true, false, false, true, true, true),
-        Op::Enqueue => columns(true, false, true, false, false, false),
         Op::Dequeue => columns(true, false, false, true, false, false),
         Op::End => match memory {
-            Memory::Ram => columns(false, false, false, true, true, false),
-            Memory::Rom => columns(false, false, true, false, false, true),
-            Memory::Set => columns(false, false, true, false, false, true),
-            Memory::Stack => columns(false, false, false, true, true, false),
+            Memory::Ram | Memory::Stack => columns(false, false, false, true, true, false),
+            Memory::Rom | Memory::Set => columns(false, false, true, false, false, true),
             Memory::Queue => columns(false, false, false, true, false, false),
         },
         Op::Range => columns(false, false, false, false, false, true),
@@ -55,6 +55,7 @@ fn of(memory: Memory, op: Op) -> Used
 }
 
 // "Other columns hold 0."
+#[tactic(auto, unfolding(memory::specs::Rows::used_or_zero))]
 fn fits(used: bool, x: u64) -> bool
     ensures { result ≡ used_or_zero used x }
 {
@@ -62,6 +63,7 @@ fn fits(used: bool, x: u64) -> bool
 }
 
 // Not 6: "guard above 1, or an unused column not 0".
+#[tactic(auto, unfolding(crate::specs::Columns::columns_of, memory::specs::Rows::columns, memory::specs::Rows::formed))]
 pub fn formed(memory: Memory, row: Row) -> bool
     ensures { result ≡ formed memory row }
 {

@@ -3,12 +3,9 @@ ghost use Rattle.std.specs.Prelude.{◌≡◌};
 ghost use Rattle.memory.specs.Step.{raise};
 
 // x + k, and at most the largest number of a counter.
+#[tactic(auto, unfolding(memory::specs::Step::top, memory::specs::Step::raise))]
 pub fn raise(x: u32, k: u64) -> u32
     ensures { result ≡ raise x k }
 {
-    if k <= (u32::MAX - x) as u64 {
-        x + k as u32
-    } else {
-        u32::MAX
-    }
+    x.saturating_add(u32::try_from(k).unwrap_or(u32::MAX))
 }

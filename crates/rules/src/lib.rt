@@ -1,7 +1,6 @@
-// The rules that the checker and the filler share: sizes, what a row looks like, counters, and the numbers of the ops.
+// The rules that the checker and the filler share: sizes, what a row looks like and counters.
 #![tactic(auto)]
 
 pub mod columns;
 pub mod counters;
-pub mod ops;
 pub mod sizes;

@@ -5,7 +5,7 @@ use native.Mathlib.Numerals.{add-one}
 use native.Mathlib.Omega.{arith}
 use mathlib.Core.Path.{◌≡◌, refl, sym, ◌∙◌, ap}
 use mathlib.Core.Bool.{Bool, true, false, cond}
-use mathlib.Core.Option.{Option, none, some}
+use Rattle.std.specs.Prelude.{Option, None, Some}
 use mathlib.Core.List.{List, [], ◌∷◌, ◌++◌, map, append-nil, append_assoc}
 use lib.Dec.{eqb, leb, ltb, lit≤}
 use lib.ListN.{length, take, drop, length-append}
@@ -241,8 +241,8 @@ Tested (no_job f) = eqb f 0 ≡ false
 
 job_of_tested : (m : Option Memory) (n t : ℕ) → Tested (job_of m n t)
 unfolding job_of
-job_of_tested none n t = refl
-job_of_tested (some m) n t = decided Tested (fill_allowed m n t) (λ e. e) refl
+job_of_tested None n t = refl
+job_of_tested (Some m) n t = decided Tested (fill_allowed m n t) (λ e. e) refl
 
 job_tested : (q : ℕ) (line : Line) → Tested (parse_job q line)
 unfolding parse_job job_read

@@ -3,7 +3,7 @@
 use Prim.Native.Nat.{◌*◌}
 use native.Mathlib.Omega.{arith}
 use mathlib.Core.Path.{◌≡◌, refl}
-use mathlib.Core.Option.{some}
+use Rattle.std.specs.Prelude.{Some}
 use mathlib.Core.List.{List, [], ◌∷◌, ◌++◌}
 use lib.ListN.{length}
 use Rattle.memory.specs.declared.Memory.{Memory}
@@ -11,10 +11,11 @@ use Rattle.memory.specs.declared.Memory.TheVariants.{Ram, Rom, Set, Stack, Queue
 use Rattle.memory.proofs.Content.{Single}
 use Rattle.memory.proofs.Operations.{op_coded_lem}
 use Rattle.runs.specs.Honest.{Input}
-use Rattle.runs.specs.Filler.{memory_code, memory_coded, inputs_in, input_numbers}
+use Rattle.runs.specs.Filler.{inputs_in, input_numbers}
+use Rattle.memory.specs.Names.{memory_code, memory_coded}
 
 -- the numbers of memories
-pub memory_coded_lem : (m : Memory) → memory_coded (memory_code m) ≡ some m
+pub memory_coded_lem : (m : Memory) → memory_coded (memory_code m) ≡ Some m
 unfolding memory_coded memory_code
 memory_coded_lem Ram = refl
 memory_coded_lem Rom = refl

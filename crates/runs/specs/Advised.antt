@@ -6,7 +6,8 @@ use Rattle.memory.specs.declared.Memory.{Memory}
 use Rattle.memory.specs.declared.Row.{Row}
 use Rattle.memory.specs.Rows.{row_fields}
 use Rattle.runs.specs.Honest.{input_of}
-use Rattle.runs.specs.Filler.{Filling, fill_of, memory_code, room, input_numbers, row_numbers}
+use Rattle.runs.specs.Filler.{Filling, fill_of, room, input_numbers, row_numbers}
+use Rattle.memory.specs.Names.{memory_code}
 
 -- what the filler leaves for the init rows and operations of a list of rows
 unfoldable pub filling_for : ℕ → Memory → ℕ → ℕ → List Row → List ℕ → List ℕ → Filling

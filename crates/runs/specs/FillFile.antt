@@ -1,7 +1,7 @@
 -- The filling program: from the bytes of its input to the bytes that it prints. Section "The filler" of document 01.
 -- Assumes nothing.
 use Rattle.std.specs.Prelude.{ℕ, suc, ◌+◌, Bool, ◌&&◌, cond, List, [], ◌∷◌, ◌++◌, map, eqb, leb, ltb, get_or, take, drop}
-use Rattle.std.proofs.Math.Option.{Option, none, some}
+use Rattle.std.specs.Prelude.{Option, None, Some}
 use Rattle.memory.specs.declared.Memory.{Memory}
 use Rattle.memory.specs.declared.Phase.TheVariants.{Starting, Operating}
 use Rattle.memory.specs.Bytes.{Line, Fields, named, no_fields, fields_of, lines_of}
@@ -31,8 +31,8 @@ job_fields = 3
 
 -- 4: "unknown memory, size or count not allowed"
 unfoldable pub job_of : Option Memory → ℕ → ℕ → Job
-job_of none n t = no_job 4
-job_of (some m) n t = cond (fill_allowed m n t) (job m n t) (no_job 4)
+job_of None n t = no_job 4
+job_of (Some m) n t = cond (fill_allowed m n t) (job m n t) (no_job 4)
 
 -- what the fields of a value line stand for
 unfoldable pub job_read : Fields → Job

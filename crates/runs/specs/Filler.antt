@@ -2,30 +2,17 @@
 -- Rows are numbers in slices: 4 numbers an input row (op, guard, addr, value), 7 numbers an output row. The number of an op is its op_code.
 -- Assumes nothing.
 use Rattle.std.specs.Prelude.{ℕ, suc, ◌+◌, ◌*◌, cond, List, [], ◌∷◌, ◌++◌, map, eqb, leb, length, take, drop, replicate}
-use Rattle.std.proofs.Math.Option.{Option, none, some}
+use Rattle.std.specs.Prelude.{Option, None, Some}
 use Rattle.memory.specs.declared.Memory.{Memory}
-use Rattle.memory.specs.declared.Memory.TheVariants.{Ram, Rom, Set, Stack, Queue}
 use Rattle.memory.specs.declared.Op.{Op}
 use Rattle.memory.specs.declared.Phase.TheVariants.{Starting, Operating}
 use Rattle.memory.specs.declared.Row.{Row}
 use Rattle.memory.specs.Bytes.{all_below}
-use Rattle.memory.specs.Names.{op_code, op_coded}
+use Rattle.memory.specs.Names.{op_code, op_coded, memory_coded}
 use Rattle.memory.specs.Content.{Content, content_of, number_of}
 use Rattle.memory.specs.Rows.{allowed, ops_due, op_in, formed}
 use Rattle.runs.specs.Plain.{start, after}
 use Rattle.runs.specs.Honest.{Input, bare, filled_rows, impossible, input_operation}
-
--- the number of a memory, and the memory that a number stands for
-unfoldable pub memory_code : Memory → ℕ
-memory_code Ram = 0
-memory_code Rom = 1
-memory_code Set = 2
-memory_code Stack = 3
-memory_code Queue = 4
-
-unfoldable pub memory_coded : ℕ → Option Memory
-memory_coded k =
-    cond (eqb k 0) (some Ram) (cond (eqb k 1) (some Rom) (cond (eqb k 2) (some Set) (cond (eqb k 3) (some Stack) (cond (eqb k 4) (some Queue) none))))
 
 -- the input rows of a slice, and the slice of input rows
 unfoldable pub inputs_in : List ℕ → List Input
@@ -123,8 +110,8 @@ fill_rows q m t inits ops out scratch =
     cond (eqb f.number 0) (filled_with (filled_rows m t inits ops) out scratch) (row_refused f out scratch)
 
 unfoldable pub fill_memory : ℕ → Option Memory → ℕ → ℕ → List ℕ → List ℕ → List ℕ → Filling
-fill_memory q none n t rows out scratch = turned_away 4 out scratch
-fill_memory q (some m) n t rows out scratch =
+fill_memory q None n t rows out scratch = turned_away 4 out scratch
+fill_memory q (Some m) n t rows out scratch =
     cond (allowed m n t)
     (cond (eqb (length rows) (4 * (n + t)))
     (cond (leb (7 * room n t) (length out))

@@ -1,5 +1,6 @@
 pub mod Plain
 pub mod Honest
+pub mod Given
 pub mod Filler
 pub mod FillStream
 pub mod FillFile

@@ -1,12 +1,44 @@
-// The type that the definitions of the filling program's input and the code share. There is no code here: definitions and statements are in specs/, proofs in proofs/.
+// The types that the definitions of the filling program's input and the code share. Definitions and
+// statements are in specs/, proofs in proofs/.
 #![tactic(auto)]
 
-use memory::Memory;
+ghost use Rattle.std.specs.Prelude.{◌≡◌};
+ghost use Rattle.runs.specs.Given.{given_input};
+ghost use Rattle.runs.specs.Honest.{bare};
+
+use memory::{Memory, Op, Row};
+
+// A row of the filler's input, in the columns `op,guard,addr,value`.
+#[derive(Clone, Copy)]
+pub struct Given {
+    pub op: Op,
+    pub guard: u64,
+    pub addr: u64,
+    pub value: u64,
+}
+
+// An input row as a row: the columns that it does not have are 0.
+impl From<Given> for Row {
+    ghost from_gives = { λ given row. row ≡ bare (given_input given) };
+
+    #[tactic(auto, unfolding(crate::specs::Honest::bare, crate::specs::Honest::filled_row))]
+    fn from(given: Given) -> Row {
+        Row {
+            op: given.op,
+            guard: given.guard,
+            addr: given.addr,
+            value: given.value,
+            old: 0,
+            time: 0,
+            version: 0,
+        }
+    }
+}
 
 // What the lines of the filling program's input leave.
 #[derive(Clone, Copy)]
 pub struct Intake {
-    // the number of the next line, 4 for all rows
+    // the number of the next line, 4 for all rows; any number, as of a forged intake
     pub place: u32,
     // the value line's
     pub memory: Memory,
@@ -14,7 +46,7 @@ pub struct Intake {
     pub count: u32,
     // rows passed
     pub passed: u32,
-    // the first fault and its line; 0 and 0 where there is none
+    // the first fault and its line; 0 and 0 where there is none; any numbers, as of a forged one
     pub answer: u32,
     pub line: u32,
 }

@@ -3,40 +3,54 @@
 
 ghost use Rattle.std.specs.Prelude.{◌≡◌, ◌<◌};
 ghost use Rattle.field.specs.Moduli.{modulus_of};
+ghost use Rattle.memory.specs.Faults.{fault_of};
 ghost use Rattle.memory.specs.File.{first_line, parse_values};
 ghost use Rattle.memory.specs.Step.{refused_state, opened_of};
-ghost use Rattle.memory.specs.Stream.{row_names_read, line_of};
-ghost use Rattle.stands.specs.Answers.{named_read, shut_number};
+ghost use Rattle.memory.specs.Stream.{names_read, row_names_read, line_of};
+ghost use Rattle.fields.specs.Written.{as_line};
 
 use field::moduli::Modulus;
-use lines::{Named, Opened};
-use memory::{Challenge, FIRST_LINE, Memory, Stand, State};
+use fields::written::Written;
+use memory::faults::{Fault, number};
+use memory::{Challenge, Context, FIRST_LINE, Memory, Stand, State, Values};
 
 // A state that has refused a line before the rows: a fresh one of size and count 0, with answer and line set.
+#[tactic(auto, unfolding(memory::specs::Step::refused_state, memory::specs::Step::refuse_at, memory::specs::Step::fresh_context, memory::specs::Step::fresh_of))]
 pub fn refused(answer: u32, line: u32) -> State
     ensures { result ≡ refused_state answer line }
 {
-    let none = Challenge {
-        r: 0,
-        a: 0,
-        b: 0,
-        c: 0,
+    let none = Values {
+        memory: Memory::Ram,
+        size: 0,
+        count: 0,
+        challenge: Challenge {
+            r: 0,
+            a: 0,
+            b: 0,
+            c: 0,
+        },
     };
-    let mut state = checker::fresh(Modulus::M31, Memory::Ram, 0, 0, none);
-    state.context.answer = answer;
-    state.context.line = line;
-    state
+    let fresh = checker::fresh(Modulus::M31, none);
+    State {
+        context: Context {
+            answer,
+            line,
+            ..fresh.context
+        },
+        ..fresh
+    }
 }
 
 // A names line by what it reads as: the next line follows, or the file is refused on this one.
-fn named(place: u32, state: State, read: Named) -> Stand
+#[tactic(auto, unfolding(memory::specs::Stream::names_read, memory::specs::Stream::stand))]
+fn named(place: u32, state: State, read: Result<(), Fault>) -> Stand
     requires { place < first_line }
-    ensures { result ≡ named_read place state read }
+    ensures { result ≡ names_read place state (fault_of read) }
 {
-    let Named::Names = read else {
+    let Ok(()) = read else {
         return Stand {
             place: FIRST_LINE,
-            state: refused(lines::names_number(read), place),
+            state: refused(number(&read), place),
         };
     };
     Stand {
@@ -45,36 +59,22 @@ fn named(place: u32, state: State, read: Named) -> Stand
     }
 }
 
-// The number of a value line that is refused; 0 of any other.
-fn shut_number(opened: Opened) -> u32
-    ensures { result ≡ shut_number opened }
-{
-    match opened {
-        Opened::Opens { .. } => 0,
-        Opened::Shut(fault) => fault,
-    }
-}
-
 // The state that the value line makes: fresh, or refused with its number on line 2.
-fn opened(k: Modulus, text: &[u8], ended: bool) -> State
-    ensures { result ≡ opened_of (modulus_of k) (parse_values (modulus_of k) (record { text = text.now; ended = ended })) }
+#[tactic(auto, unfolding(memory::specs::Step::opened_of, lines::specs::Answers::opening_of))]
+fn opened(k: Modulus, line: &Written) -> State
+    ensures { result ≡ opened_of (modulus_of k) (parse_values (modulus_of k) (as_line line.now)) }
 {
-    let read = lines::value_line(k, text, ended);
-    let Opened::Opens {
-        memory,
-        size,
-        count,
-        challenge,
-    } = read
-    else {
-        return refused(shut_number(read), 2);
+    let read = lines::value_line(k, line);
+    let Ok(values) = read else {
+        return refused(number(&read), 2);
     };
-    checker::fresh(k, memory, size, count, challenge)
+    checker::fresh(k, values)
 }
 
 // Line 3: where the value line was refused, the file keeps that answer.
-fn row_names(state: State, text: &[u8], ended: bool) -> Stand
-    ensures { result ≡ row_names_read state (record { text = text.now; ended = ended }) }
+#[tactic(auto, unfolding(memory::specs::Stream::row_names_read, memory::specs::Stream::stand))]
+fn row_names(state: State, line: &Written) -> Stand
+    ensures { result ≡ row_names_read state (as_line line.now) }
 {
     if !answers::takes_rows(state.context) {
         return Stand {
@@ -82,24 +82,25 @@ fn row_names(state: State, text: &[u8], ended: bool) -> Stand
             state,
         };
     }
-    named(3, state, lines::row_names_line(text, ended))
+    named(3, state, lines::row_names_line(line))
 }
 
-// Any line.
-pub fn line(k: Modulus, stand: Stand, text: &[u8], ended: bool) -> Stand
-    ensures { result ≡ line_of (modulus_of k) stand (record { text = text.now; ended = ended }) }
+// Any line. A stand has any number for its place, and every place from 4 on is that of the rows.
+#[tactic(auto, unfolding(memory::specs::Stream::line_of, memory::specs::Step::row_of, memory::specs::Stream::stand))]
+pub fn line(k: Modulus, stand: Stand, line: &Written) -> Stand
+    ensures { result ≡ line_of (modulus_of k) stand (as_line line.now) }
 {
     let place = stand.place;
     match place {
-        1 => named(1, stand.state, lines::value_names_line(text, ended)),
+        1 => named(1, stand.state, lines::value_names_line(line)),
         2 => Stand {
             place: 3,
-            state: opened(k, text, ended),
+            state: opened(k, line),
         },
-        3 => row_names(stand.state, text, ended),
+        3 => row_names(stand.state, line),
         _ => Stand {
             place: FIRST_LINE,
-            state: checker::step(k, stand.state, lines::row_line(k, text, ended)),
+            state: checker::step(k, stand.state, lines::row_line(k, line).map_err(u32::from)),
         },
     }
 }

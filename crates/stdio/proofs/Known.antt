@@ -4,7 +4,7 @@ use Rattle.std.proofs.Common.{◌∙◌}
 use Rattle.stdio.specs.Statements.{KnownRead, KnownWrite}
 
 pub known_read : KnownRead
-known_read kept old new after = ((λ end h. h), (λ h. (h.0 ∙ h.1, h.1)), (λ h. h))
+known_read kept old new after = ((λ end h. h), (λ h. (h.0 ∙ h.1, h.1)), (λ e h. h))
 
 pub known_write : KnownWrite
-known_write n old new text = ((λ h. h), (λ h. h), (λ h. h))
+known_write n old new text = ((λ h. h), (λ h. h), (λ e h. h))

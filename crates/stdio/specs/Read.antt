@@ -3,35 +3,39 @@
 -- whether the read fails, and what stands in the buffer behind the kept bytes.
 -- Of a reader whose bytes are known, `Brings` says which of them came.
 -- Assumes nothing.
-use Rattle.std.specs.Prelude.{ℕ, ◌+◌, ◌≤◌, ◌<◌, min, ◌≡◌, cond, List, [], eqb, ℤ, pos, negsuc, length, take, slice_range, Option, Result, Ok, Err}
+use Rattle.std.specs.Prelude.{ℕ, ◌+◌, ◌≤◌, ◌<◌, min, ◌≡◌, cond, List, [], eqb, length, take, slice_range, Option, None, Some, Result, Ok, Err}
 use Rattle.std.specs.Io.KnownBytes.{Consumes, IsAtEnd, Keeps}
-use Rattle.stdio.specs.declared.Read.{Read}
-use Rattle.stdio.specs.declared.Read.TheVariants.{Filled, Ended, Failed}
+use Rattle.std.specs.declared.io.Error.{Error}
+use Rattle.stdio.specs.declared.Failure.{Failure}
+use Rattle.stdio.specs.declared.Failure.TheVariants.{NoRoom, Read}
 
 -- 64 KiB
 abbrev pub block : ℕ
 block = 65536
 
--- the number that a reader's answer stands for: how many bytes came, and -1 of a failed read
-abbrev pub number_of : {E : Type 0} → Result ℕ E → ℤ
-number_of (Ok n) = pos n
-number_of (Err e) = negsuc 0
+-- What a read comes to: up to where the buffer is filled, or none at the end of input; or why it
+-- failed
+abbrev pub Outcome : Type 0
+Outcome = Result (Option ℕ) Failure
 
--- what the system's answer comes to, of a read that had room for so many bytes behind a position:
--- below 0 it failed, and no bytes are the end of input
-abbrev pub read_of : ℤ → ℕ → ℕ → Read
-read_of (pos n) from room = cond (eqb (min n room) 0) Ended (Filled (from + min n room))
-read_of (negsuc n) from room = Failed
+-- what the reader's answer comes to, of a read that had room for so many bytes behind a position:
+-- its error is a failed read, and no bytes are the end of input
+abbrev pub read_of : Result ℕ Error → ℕ → ℕ → Outcome
+read_of (Ok n) from room = Ok (cond (eqb (min n room) 0) None (Some (from + min n room)))
+read_of (Err e) from room = Err (Read e)
 
 -- the answers that a buffer of `size` bytes allows: one byte or more came, at most a block, and all
--- that came stand in the buffer; the end, only where a byte had room; a failed read, always
-abbrev pub Answer : ℕ → ℕ → Read → Type 0
-Answer size kept (Filled end) = (kept < end) × (end ≤ size) × (end ≤ kept + block)
-Answer size kept Ended = kept < size
-Answer size kept Failed = Unit {0}
+-- that came stand in the buffer; the end and a failed read, only where a byte had room; that there is
+-- none, only where there is none; and no other failure
+abbrev pub Answer : ℕ → ℕ → Outcome → Type 0
+Answer size kept (Ok (Some end)) = (kept < end) × (end ≤ size) × (end ≤ kept + block)
+Answer size kept (Ok None) = kept < size
+Answer size kept (Err NoRoom) = size ≤ kept
+Answer size kept (Err (Read e)) = kept < size
+Answer size kept (Err _) = ⊥
 
 -- the buffer is as long as it was, and its kept bytes are as they were
-pub record ReadBehind (kept : ℕ) (before after : List ℕ) (r : Read) : Type 0 where
+pub record ReadBehind (kept : ℕ) (before after : List ℕ) (r : Outcome) : Type 0 where
   pub answer : Answer (length before) kept r
   pub size : length after ≡ length before
   pub front : take kept after ≡ take kept before
@@ -39,7 +43,7 @@ pub record ReadBehind (kept : ℕ) (before after : List ℕ) (r : Read) : Type 0
 -- of a reader whose bytes are known before and after: those that it gave stand behind the kept
 -- bytes, up to where the buffer is filled; at the end it gave none and has none left; a failed read
 -- takes none
-abbrev pub Brings : ℕ → Option (List ℕ) → Option (List ℕ) → List ℕ → Read → Type 0
-Brings kept old new after (Filled end) = Consumes old new (slice_range after kept end)
-Brings kept old new after Ended = Consumes old new [] × IsAtEnd new
-Brings kept old new after Failed = Keeps old new
+abbrev pub Brings : ℕ → Option (List ℕ) → Option (List ℕ) → List ℕ → Outcome → Type 0
+Brings kept old new after (Ok (Some end)) = Consumes old new (slice_range after kept end)
+Brings kept old new after (Ok None) = Consumes old new [] × IsAtEnd new
+Brings kept old new after (Err e) = Keeps old new

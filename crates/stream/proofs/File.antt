@@ -1,10 +1,10 @@
 -- A whole file, read in pieces and at once, gives what the whole-file definition says.
 -- Assumes nothing.
-use Prim.Native.Nat.{ℕ}
+use Prim.Native.Nat.{ℕ, ◌≤◌}
 use mathlib.Core.Path.{◌≡◌, sym, ◌∙◌, ap}
 use mathlib.Core.List.{List}
 use native.Mathlib.Omega.{arith}
-use lib.ListN.{drop}
+use lib.ListN.{length, take, drop}
 use Rattle.field.specs.declared.moduli.Modulus.{Modulus}
 use Rattle.field.specs.Moduli.{modulus_of}
 use Rattle.field.proofs.Variants.{modulus_two}
@@ -22,7 +22,8 @@ use Rattle.pieces.proofs.Feeds.{block_read}
 use Rattle.pieces.proofs.Calls.{calls_read}
 use Rattle.stream.specs.declared.Progress.{Progress}
 use Rattle.stream.specs.Progress.{begun, left_by}
-use Rattle.text.proofs.Written.{put_text, put_whole}
+use Rattle.text.specs.Put.{put_of, written}
+use Rattle.text.proofs.Written.{put_at_start, written_at_start}
 use Rattle.stream.specs.Statements.{PiecesAreFile, PiecesArePrinted}
 
 -- in pieces
@@ -35,12 +36,13 @@ pieces_are_file k buffer calls h =
 -- and printed
 pub pieces_are_printed : PiecesArePrinted
 pieces_are_printed k buffer calls h text printed r room put slice =
+    let lines = report_text (file_report (modulus_of k) (joined calls)) in
     let same = ap report_text (pieces_are_file k buffer calls h) in
-    let report = file_report (modulus_of k) (joined calls) in
-    let all = put_text text 0 same (put, slice) in
-    let whole =
-    put_whole text (report_text report) (omega (arith, report_short report, room)) all in
-    record { answer = whole.0; bytes = whole.1 }
+    let fits : length lines ≤ length text = omega (arith, report_short (file_report (modulus_of k) (joined calls)), room) in
+    record {
+      answer = put ∙ ap (put_of (length text) 0) same ∙ put_at_start (length text) lines fits;
+      bytes = ap (take (length lines)) (slice ∙ ap (written text 0) same) ∙ written_at_start text lines fits;
+    }
 
 -- at once: its whole lines, and its last line if that is not ended
 pub whole_file : (k : Modulus) (file : List ℕ) (start : Progress) → start ≡ begun k → (r : Stand) (used : ℕ)

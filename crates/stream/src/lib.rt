@@ -3,8 +3,8 @@
 #![tactic(auto)]
 
 use field::moduli::Modulus;
-use memory::{Report, Stand, numbers};
-use text::Put;
+use memory::faults::Fault;
+use memory::{Report, Stand};
 
 mod block;
 mod ending;
@@ -20,7 +20,7 @@ ghost use Rattle.stream.specs.Progress.{begun, left_by};
 
 // Between two pieces of a file: the modulus that it is checked with, what its lines left, and how
 // many bytes of the line that is being read stand at the front of the caller's buffer. The caller
-// puts the bytes that follow behind them.
+// puts the bytes that follow behind them: the buffer is lent, and memory is constant.
 #[derive(Clone, Copy)]
 pub struct Progress {
     pub field: Modulus,
@@ -29,6 +29,7 @@ pub struct Progress {
 }
 
 // Before the first byte.
+#[tactic(auto, unfolding(crate::specs::Progress::begun, memory::specs::Stream::unopened, memory::specs::Stream::stand))]
 pub fn start(field: Modulus) -> Progress
     ensures progress { result ≡ begun field }
     ensures field { result.field ≡ field }
@@ -37,7 +38,7 @@ pub fn start(field: Modulus) -> Progress
         field,
         stand: Stand {
             place: 1,
-            state: stands::refused(numbers::NOT_NAMES, 1),
+            state: stands::refused(u32::from(Fault::NotNames), 1),
         },
         kept: 0,
     }
@@ -50,7 +51,7 @@ pub fn advance(progress: Progress, buf: &mut [u8], filled: usize) -> Progress
     ensures field { result.field ≡ progress.field }
 {
     let field = progress.field;
-    let end = decimal::smaller(filled, buf.len());
+    let end = filled.min(buf.len());
     let taken = block::lines_in(field, progress.stand, &buf[..end]);
     let stand = taken.stand;
     let kept = pieces::keep(buf, taken.used, end);
@@ -58,16 +59,17 @@ pub fn advance(progress: Progress, buf: &mut [u8], filled: usize) -> Progress
 }
 
 // The end of input, with the kept bytes at the front of the buffer.
+#[tactic(auto, unfolding(crate::specs::Progress::left_by, pieces::specs::Calls::stands_for), using(std::proofs::lemmas::List::take_min))]
 pub fn finish(progress: Progress, buf: &[u8]) -> Report
     ensures { result ≡ finish_of (modulus_of progress.field) (stands_for (left_by progress buf.now)) }
 {
     let field = progress.field;
-    let end = decimal::smaller(progress.kept, buf.len());
+    let end = progress.kept.min(buf.len());
     ending::report(field, progress.stand, &buf[..end])
 }
 
 // The end of input, in the same way: the two lines that `check` prints go into the text.
-pub fn print_end(progress: Progress, buf: &[u8], text: &mut [u8]) -> Put
+pub fn print_end(progress: Progress, buf: &[u8], text: &mut [u8]) -> Option<usize>
     ensures answer { result ≡ put_of (length text.old) 0 (report_text (finish_of (modulus_of progress.field) (stands_for (left_by progress buf.now)))) }
     ensures slice { text.new ≡ written text.old 0 (report_text (finish_of (modulus_of progress.field) (stands_for (left_by progress buf.now)))) }
 {
@@ -78,10 +80,11 @@ pub fn print_end(progress: Progress, buf: &[u8], text: &mut [u8]) -> Put
 pub const TEXT: usize = 109;
 
 // The same with a text of that many bytes: it always has room for them.
-pub fn print_whole(progress: Progress, buf: &[u8], text: &mut [u8; TEXT]) -> Put
+#[tactic(auto, using(text::proofs::Written::put_at_start, memory::proofs::ReportLength::report_short))]
+pub fn print_whole(progress: Progress, buf: &[u8], text: &mut [u8; TEXT]) -> Option<usize>
     ensures answer { result ≡ put_of (length text.old) 0 (report_text (finish_of (modulus_of progress.field) (stands_for (left_by progress buf.now)))) }
     ensures slice { text.new ≡ written text.old 0 (report_text (finish_of (modulus_of progress.field) (stands_for (left_by progress buf.now)))) }
-    ensures room { result ≡ Put.At (length (report_text (finish_of (modulus_of progress.field) (stands_for (left_by progress buf.now))))) }
+    ensures room { result ≡ Some (length (report_text (finish_of (modulus_of progress.field) (stands_for (left_by progress buf.now))))) }
     ensures many { length text.new ≡ length text.old }
 {
     print_end(progress, buf, text)

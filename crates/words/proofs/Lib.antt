@@ -1,4 +1,2 @@
-pub mod Written
-pub mod Parts
 pub mod Packed
 pub mod Counted

@@ -3,9 +3,8 @@
 --     content_packed    the content that operation k brought
 --     content_moved     a content whose source stays
 -- Assumes nothing.
-use Prim.Native.Nat.{ℕ, ◌+◌, ◌-◌, ◌%◌, ◌<◌}
+use Prim.Native.Nat.{ℕ, ◌+◌, ◌-◌, ◌<◌}
 use native.Mathlib.Omega.{arith}
-use native.Mathlib.Nat.{mod-lt, mod-eq_of_lt}
 use mathlib.Core.Bool.{cond}
 use mathlib.Core.Path.{◌≡◌, ap, ◌∙◌}
 use mathlib.Core.List.{List}
@@ -13,19 +12,14 @@ use lib.Dec.{eqb}
 use borrow.Author.Tests.{ne_eqb}
 use Rattle.words.specs.Inputs.{value_at}
 use Rattle.words.specs.Cells.{span, packed, source_in, time_in, content_in}
-use Rattle.words.proofs.Parts.{high_part, low_part}
-
-span_some : 0 < span
-unfolding span
-span_some = omega arith
 
 pub source_packed : (source time : ℕ) → source < span → source_in (packed source time) ≡ source
-unfolding source_in packed
-source_packed source time h = high_part span (source % span) (time % span) span_some (mod-lt time span_some) ∙ mod-eq_of_lt h
+unfolding source_in packed span
+source_packed source time h = omega arith
 
 pub time_packed : (source time : ℕ) → time < span → time_in (packed source time) ≡ time
-unfolding time_in packed
-time_packed source time h = low_part span (source % span) (time % span) span_some (mod-lt time span_some) ∙ mod-eq_of_lt h
+unfolding time_in packed span
+time_packed source time h = omega arith
 
 -- the content by its source alone
 abbrev sourced : List ℕ → List ℕ → ℕ → ℕ → ℕ

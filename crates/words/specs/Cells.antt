@@ -3,6 +3,7 @@
 -- Assumes nothing.
 use Rattle.std.specs.Prelude.{ℕ, ◌+◌, ◌-◌, ◌*◌, ◌/◌, ◌%◌, cond, List, eqb}
 use Rattle.words.specs.Inputs.{value_at}
+use Rattle.words.specs.declared.cells.Cell.{Cell}
 
 -- a source and a time are below this: each is at most 65,536
 unfoldable pub span : ℕ
@@ -18,6 +19,9 @@ source_in word = word / span
 
 unfoldable pub time_in : ℕ → ℕ
 time_in word = word % span
+
+abbrev pub cell_in : ℕ → Cell
+cell_in word = record { source = source_in word; time = time_in word }
 
 -- the content of cell j, by its word, in the slices of init rows and of operations
 unfoldable pub content_in : List ℕ → List ℕ → ℕ → ℕ → ℕ

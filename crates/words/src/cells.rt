@@ -1,40 +1,48 @@
 // A word of a cell: where its content comes from, and its time. No content stands in it: source 0
 // is the cell's init row, and source k + 1 is operation k.
 ghost use Rattle.std.specs.Prelude.{◌≡◌};
-ghost use Rattle.words.specs.Cells.{packed, source_in, time_in, content_in};
+ghost use Rattle.words.specs.Cells.{packed, cell_in, content_in};
 
 // A source is below this, and so is a time.
 const SPAN: u64 = 131072;
 
+#[derive(Clone, Copy)]
+pub struct Cell {
+    pub source: u64,
+    pub time: u64,
+}
+
 // The word of a source and a time.
-pub fn pack(source: u64, time: u64) -> u64
-    ensures { result ≡ packed source time }
-{
-    source % SPAN * SPAN + time % SPAN
+impl From<Cell> for u64 {
+    ghost from_gives = { λ cell word. word ≡ packed cell.source cell.time };
+
+    #[tactic(auto, unfolding(crate::specs::Cells::packed, crate::specs::Cells::span))]
+    fn from(cell: Cell) -> u64 {
+        cell.source % SPAN * SPAN + cell.time % SPAN
+    }
 }
 
-// The source in a word.
-pub fn source_in(word: u64) -> u64
-    ensures { result ≡ source_in word }
-{
-    word / SPAN
-}
+// The source and the time in a word.
+impl From<u64> for Cell {
+    ghost from_gives = { λ word cell. cell ≡ cell_in word };
 
-// The time in a word.
-pub fn time_in(word: u64) -> u64
-    ensures { result ≡ time_in word }
-{
-    word % SPAN
+    #[tactic(auto, unfolding(crate::specs::Cells::source_in, crate::specs::Cells::time_in, crate::specs::Cells::span))]
+    fn from(word: u64) -> Cell {
+        Cell {
+            source: word / SPAN,
+            time: word % SPAN,
+        }
+    }
 }
 
 // The content of a cell, by its word: the value of its init row, or of the operation that brought
 // it.
+#[tactic(auto, unfolding(crate::specs::Cells::content_in))]
 pub fn content(cell: usize, word: u64, inits: &[u64], ops: &[u64]) -> u64
     ensures { result ≡ content_in inits.now ops.now cell word }
 {
-    let source = source_in(word);
-    if source == 0 {
-        return super::value(inits, cell);
+    match Cell::from(word).source {
+        0 => super::value(inits, cell),
+        source => super::value(ops, (source - 1) as usize),
     }
-    super::value(ops, (source - 1) as usize)
 }

@@ -1,5 +1,6 @@
-// Rows in slices of words: 4 words an input row of the filler, 7 words an output row. Every function is total: past the end of a slice a word reads as 0, and
-// nothing is written. Module cells has the words of cells, and module counts those of keys.
+// Rows in slices of words: 4 words an input row of the filler, 7 words an output row. Every
+// function is total: past the end of a slice a word reads as 0, and nothing is written. Module
+// cells has the words of cells, and module counts those of keys.
 #![tactic(auto)]
 
 pub mod cells;
@@ -13,11 +14,7 @@ ghost use Rattle.words.specs.Inputs.{words_at, value_at};
 pub fn clear(words: &mut [u64])
     ensures { words.new ≡ replicate (length words.old) 0 }
 {
-    let mut i = 0;
-    while i < words.len() {
-        words[i] = 0;
-        i += 1;
-    }
+    words.fill(0);
 }
 
 // Every word of both becomes 0: "whole output and scratch 0".
@@ -33,10 +30,10 @@ pub fn clear_both(out: &mut [u64], scratch: &mut [u64])
 pub fn word(words: &[u64], at: usize) -> u64
     ensures { result ≡ get_or words.now at 0 }
 {
-    if at < words.len() { words[at] } else { 0 }
+    words.get(at).copied().unwrap_or(0)
 }
 
-// Writes a word at a place.
+// Writes a word at a place. (By `get_mut` it does not prove: std says nothing of the slice then.)
 pub fn store(words: &mut [u64], at: usize, word: u64)
     ensures { words.new ≡ set words.old at word }
 {
@@ -45,8 +42,9 @@ pub fn store(words: &mut [u64], at: usize, word: u64)
     }
 }
 
-// The words of an input row, in the columns `op,guard,addr,value`.
-#[derive(Clone, Copy)]
+// The words of an input row, in the columns `op,guard,addr,value`: "rows are lent slices of
+// numbers", so op and guard are numbers too.
+#[derive(Clone, Copy, Default)]
 pub struct Input {
     pub op: u64,
     pub guard: u64,
@@ -54,19 +52,20 @@ pub struct Input {
     pub value: u64,
 }
 
+// The words of an output row that an input row does not have, in the columns `old,time,version`:
+// "All else in the rows is advice." A column that holds none is 0.
+#[derive(Clone, Copy, Default)]
+pub struct Advice {
+    pub old: u64,
+    pub time: u64,
+    pub version: u64,
+}
+
 // An input row that the slice ends in or before.
 fn cut_row(rows: &[u64], k: usize) -> Input
     ensures { result ≡ words_at rows.now k }
 {
-    if rows.len() <= k {
-        return Input {
-            op: 0,
-            guard: 0,
-            addr: 0,
-            value: 0,
-        };
-    }
-    let at = 4 * k;
+    let at = 4 * k.min(rows.len());
     Input {
         op: word(rows, at),
         guard: word(rows, at + 1),
@@ -111,23 +110,23 @@ fn put_input(at: usize, row: Input, out: &mut [u64])
 }
 
 // The advice: the last three words of an output row, from a place on.
-fn put_advice(at: usize, old: u64, time: u64, version: u64, out: &mut [u64])
+fn put_advice(at: usize, advice: Advice, out: &mut [u64])
     requires { at ≤ 7 * length out.old }
-    ensures { out.new ≡ sets out.old at (old ∷ time ∷ version ∷ []) }
+    ensures { out.new ≡ sets out.old at (advice.old ∷ advice.time ∷ advice.version ∷ []) }
 {
-    store(out, at, old);
-    store(out, at + 1, time);
-    store(out, at + 2, version);
+    store(out, at, advice.old);
+    store(out, at + 1, advice.time);
+    store(out, at + 2, advice.version);
 }
 
 // Writes output row k: an input row, and the advice that it gets.
-pub fn put(k: usize, row: Input, old: u64, time: u64, version: u64, out: &mut [u64])
-    ensures { out.new ≡ sets out.old (7 * k) (row.op ∷ row.guard ∷ row.addr ∷ row.value ∷ old ∷ time ∷ version ∷ []) }
+pub fn put(k: usize, row: Input, advice: Advice, out: &mut [u64])
+    ensures { out.new ≡ sets out.old (7 * k) (row.op ∷ row.guard ∷ row.addr ∷ row.value ∷ advice.old ∷ advice.time ∷ advice.version ∷ []) }
 {
     if out.len() <= k {
         return;
     }
     let at = 7 * k;
     put_input(at, row, out);
-    put_advice(at + 4, old, time, version, out);
+    put_advice(at + 4, advice, out);
 }

@@ -1,7 +1,7 @@
 -- `faults::scan_inits` meets its contract. The invariant of its loop: no init row passed has a
 -- fault, so the scan is that of the rows left.
 -- Assumes nothing.
-use Prim.Native.Nat.{◌+◌, ◌≤◌, ◌-◌}
+use Prim.Native.Nat.{◌+◌}
 use mathlib.Core.Path.{◌≡◌}
 use lib.ListN.{drop}
 use Rattle.field.specs.Moduli.{modulus_of}
@@ -11,7 +11,4 @@ use Rattle.faults.proofs.scan_inits.Given as goal
 
 abbrev pub invariant-loop-k : goal.invariant-loop-k
 invariant-loop-k l =
-    (l.k ≤ l.n) × (inits_scanned (modulus_of l.field) 1 (inputs_in l.inits) ≡ inits_scanned (modulus_of l.field) (l.k + 1) (drop l.k (inputs_in l.inits)))
-
-abbrev pub decreases-loop-k : goal.decreases-loop-k
-decreases-loop-k l = l.n - l.k
+    inits_scanned (modulus_of l.field) 1 (inputs_in l.inits) ≡ inits_scanned (modulus_of l.field) (l.k + 1) (drop l.k (inputs_in l.inits))

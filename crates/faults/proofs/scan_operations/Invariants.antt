@@ -1,7 +1,7 @@
 -- `faults::scan_operations` meets its contract. The invariant of its loop: no operation passed has
 -- a fault, so the scan is that of the operations left, from the level that has been reached.
 -- Assumes nothing.
-use Prim.Native.Nat.{◌+◌, ◌≤◌, ◌-◌}
+use Prim.Native.Nat.{◌+◌, ◌≤◌}
 use mathlib.Core.Path.{◌≡◌}
 use lib.ListN.{drop}
 use Rattle.field.specs.Moduli.{modulus_of}
@@ -12,7 +12,4 @@ use Rattle.faults.proofs.scan_operations.Given as goal
 
 abbrev pub invariant-loop-k : goal.invariant-loop-k
 invariant-loop-k l =
-    (l.k ≤ l.t) × (l.level ≤ l.n + l.k) × (operations_scanned (modulus_of l.field) l.m l.inits l.links l.ops ≡ scanned (modulus_of l.field) l.m (in_tree (values_in l.inits) l.links) l.level (l.n + l.k + 1) (drop l.k (inputs_in l.ops)))
-
-abbrev pub decreases-loop-k : goal.decreases-loop-k
-decreases-loop-k l = l.t - l.k
+    (l.level ≤ l.n + l.k) × (operations_scanned (modulus_of l.field) l.m l.tree.inits.now l.tree.links.now l.ops ≡ scanned (modulus_of l.field) l.m (in_tree (values_in l.tree.inits.now) l.tree.links.now) l.level (l.n + l.k + 1) (drop l.k (inputs_in l.ops)))

@@ -2,13 +2,9 @@
 -- slice, it is known whether they are below the modulus, and those that are left are still to be
 -- read.
 -- Assumes nothing.
-use Prim.Native.Nat.{◌-◌}
 use lib.ListN.{length}
 use Rattle.fields.proofs.Fields.{Reading}
 use Rattle.fields.proofs.read.Given as goal
 
-abbrev pub invariant-loop-i : goal.invariant-loop-i
-invariant-loop-i l = Reading l.q (length l.initial.numbers) l.text l.ended l.numbers l.i l.next l.below
-
-abbrev pub decreases-loop-i : goal.decreases-loop-i
-decreases-loop-i l = length l.numbers - l.i
+abbrev pub invariant-loop-number : goal.invariant-loop-number
+invariant-loop-number l = Reading l.q (length l.initial.numbers) l.text l.ended l.numbers l.number-index l.next l.below

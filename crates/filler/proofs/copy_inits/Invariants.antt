@@ -1,10 +1,10 @@
 -- `filler::copy_inits` meets its contract. The invariant of its loop: what is written and the rows
 -- left make up the whole, and no row left has a fault.
 -- Assumes nothing.
-use Prim.Native.Nat.{◌*◌, ◌≤◌, ◌-◌}
+use Prim.Native.Nat.{◌*◌}
 use mathlib.Core.Path.{◌≡◌}
 use mathlib.Core.List.{map}
-use lib.ListN.{length, drop}
+use lib.ListN.{drop}
 use Rattle.runs.specs.Honest.{bare}
 use Rattle.runs.specs.Filler.{inputs_in}
 use Rattle.layout.specs.Laid.{laid}
@@ -13,7 +13,4 @@ use Rattle.filler.proofs.copy_inits.Given as goal
 
 abbrev pub invariant-loop-k : goal.invariant-loop-k
 invariant-loop-k l =
-    (l.k ≤ l.n) × (length l.out ≡ length l.initial.out) × (laid l.initial.out 0 (map bare (inputs_in l.inits)) ≡ laid l.out (7 * l.k) (map bare (drop l.k (inputs_in l.inits)))) × CleanInits (drop l.k (inputs_in l.inits))
-
-abbrev pub decreases-loop-k : goal.decreases-loop-k
-decreases-loop-k l = l.n - l.k
+    (laid l.initial.out 0 (map bare (inputs_in l.trace.inits.now)) ≡ laid l.out (7 * l.k) (map bare (drop l.k (inputs_in l.trace.inits.now)))) × CleanInits (drop l.k (inputs_in l.trace.inits.now))

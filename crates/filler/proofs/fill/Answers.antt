@@ -1,32 +1,59 @@
 -- `filler::fill` meets its contract.
 -- Assumes nothing.
-use mathlib.Core.Path.{sym, ap, ◌∙◌}
-use lib.ListN.{take, drop}
+use Prim.Native.Nat.{ℕ}
+use native.Mathlib.Omega.{arith}
+use mathlib.Core.Path.{◌≡◌, sym, ap, subst, ◌∙◌}
+use mathlib.Core.List.{List}
+use Rattle.std.specs.Prelude.{Result, Err}
+use Rattle.std.proofs.lemmas.Result.{err_from_is_err_and}
 use Rattle.field.specs.Moduli.{modulus_of}
-use Rattle.runs.specs.Filler.{inputs_in, fill_rows}
-use Rattle.filler.specs.Answer.{known_of}
-use Rattle.filler.proofs.Whole.{fills_same, roomy, away_unknown, away, not_away}
+use Rattle.memory.specs.declared.faults.Fault.{Fault}
+use Rattle.memory.specs.declared.faults.Fault.TheVariants.{NotAllowed}
+use Rattle.runs.specs.Filler.{Filling, fill_of}
+use Rattle.faults.specs.declared.Refused.{Refused}
+use Rattle.filler.specs.Answer.{Fills}
+use Rattle.filler.proofs.Whole.{fills_same, all_rows, parts_filled, roomy, away_unknown, away, not_away}
 use Rattle.filler.proofs.fill.Goals as goal
 
-pub returns-in_default : goal.returns-in_default
-unfolding known_of
-returns-in_default c =
-    let all = away_unknown _ c.args.memory c.args.size c.args.count c.args.rows.now c.args.out.now c.args.scratch.now (sym c.memory_of.ensures ∙ ap known_of c.in_default.is) in
-    record { answer = all.0; output = all.1.0; words = all.1.1 }
+-- what a `?` returns of a fault that is no row's
+placeless : {f : Filling} {r : Result ℕ Refused} {out s : List ℕ} (fault : Fault) (x : Refused) → r ≡ Err x → x ≡ record { fault = fault; place = 0 }
+    → Fills f (Err (record { fault = fault; place = 0 })) out s → Fills f r out s
+placeless {f} {r} {out} {s} fault x e is all = subst (λ (a : Result ℕ Refused). Fills f a out s) (sym (e ∙ ap (λ (y : Refused). Err y) is)) all
 
-pub returns-then-number-ne0 : goal.returns-then-number-ne0
-unfolding known_of
-returns-then-number-ne0 c =
-    let known = sym c.memory_of.ensures ∙ ap known_of c.in-Is.is in
-    let all = away _ c.args.memory c.args.size c.args.count c.args.rows.now c.args.out.now c.args.scratch.now c.in-Is.m known c.turned_away-number.ensures c.if-number-ne0.true in
-    record { answer = all.0; output = all.1.0; words = all.1.1 }
+pub returns-in_default-clause-answer : goal.returns-in_default-clause-answer
+returns-in_default-clause-answer c = (away_unknown (modulus_of c.args.field) c.args.memory c.args.size c.args.count c.args.rows.now c.args.out.now c.args.scratch.now _ (sym c.in_default.is ∙ c.try_from.ensures)).answer
+
+pub returns-in_default-clause-output : goal.returns-in_default-clause-output
+returns-in_default-clause-output c = (away_unknown (modulus_of c.args.field) c.args.memory c.args.size c.args.count c.args.rows.now c.args.out.now c.args.scratch.now _ (sym c.in_default.is ∙ c.try_from.ensures)).output
+
+pub returns-in_default-clause-words : goal.returns-in_default-clause-words
+returns-in_default-clause-words c = (away_unknown (modulus_of c.args.field) c.args.memory c.args.size c.args.count c.args.rows.now c.args.out.now c.args.scratch.now _ (sym c.in_default.is ∙ c.try_from.ensures)).words
+
+pub returns-in_err-turned_away : goal.returns-in_err-turned_away
+returns-in_err-turned_away c =
+    let p = err_from_is_err_and c.from_residual.result c.from_residual.ensures.1 in
+    let all = placeless c.in_err-turned_away.field-0.0 p.0 p.1 p.2
+    (away (modulus_of c.args.field) c.args.memory c.args.size c.args.count c.args.rows.now c.args.out.now c.args.scratch.now c.in-Ok.memory (sym c.in-Ok.is ∙ c.try_from.ensures) c.in_err-turned_away.field-0.0 c.in_err-turned_away.ensures) in
+    record { answer = all.answer; output = all.output; words = all.words }
+
+pub split_at-requires : goal.split_at-requires
+split_at-requires c = omega (arith, all_rows c.in-Ok.memory c.args.size c.args.count c.args.rows.now c.args.out.now c.args.scratch.now c.in_ok-turned_away.ensures)
+
+pub invariant_of-trace : goal.invariant_of-trace
+invariant_of-trace c =
+    let all = all_rows c.in-Ok.memory c.args.size c.args.count c.args.rows.now c.args.out.now c.args.scratch.now c.in_ok-turned_away.ensures in
+    record { starting = omega (arith, c.split_at.ensures.front_len); operating = omega (arith, all, c.split_at.ensures.back_len) }
 
 pub fill_rows-requires : goal.fill_rows-requires
-fill_rows-requires c = roomy c.in-Is.m c.args.size c.args.count c.args.rows.now c.args.out.now c.args.scratch.now (sym c.turned_away-number.ensures ∙ c.if-number-ne0.false)
+fill_rows-requires c = roomy c.in-Ok.memory c.args.size c.args.count c.args.rows.now c.args.out.now c.args.scratch.now c.in_ok-turned_away.ensures
 
 pub returns : goal.returns
-unfolding known_of
 returns c =
-    let known = sym c.memory_of.ensures ∙ ap known_of c.in-Is.is in
-    let all = fills_same {f = fill_rows (modulus_of c.args.field) c.in-Is.m c.args.count (take c.args.size (inputs_in c.args.rows.now)) (drop c.args.size (inputs_in c.args.rows.now)) c.args.out.now c.args.scratch.now} (c.fill_rows.ensures.answer, (c.fill_rows.ensures.output, c.fill_rows.ensures.words)) (not_away _ c.args.memory c.args.size c.args.count c.args.rows.now c.args.out.now c.args.scratch.now c.in-Is.m known (sym c.turned_away-number.ensures ∙ c.if-number-ne0.false)) in
-    record { answer = all.0; output = all.1.0; words = all.1.1 }
+    let m = c.in-Ok.memory in
+    let away = c.in_ok-turned_away.ensures in
+    let rows = c.args.rows.now in
+    let parts = c.split_at.ensures in
+    let all = fills_same (fills_same c.fill_rows.ensures
+    (parts_filled rows _ _ c.args.size c.args.count parts.front parts.back (all_rows m c.args.size c.args.count rows c.args.out.now c.args.scratch.now away) (modulus_of c.args.field) m c.args.out.now c.args.scratch.now))
+    (not_away (modulus_of c.args.field) c.args.memory c.args.size c.args.count rows c.args.out.now c.args.scratch.now m (sym c.in-Ok.is ∙ c.try_from.ensures) away) in
+    record { answer = all.answer; output = all.output; words = all.words }

@@ -3,7 +3,8 @@
 use Prim.Native.Nat.{◌+◌, ◌*◌, ◌≤◌}
 use native.Mathlib.Omega.{arith}
 use mathlib.Core.Path.{sym}
-use lib.ListN.{length, take, drop}
+use lib.ListN.{length}
+use Rattle.field.specs.Moduli.{modulus_of}
 use lib.Seq.{length-take-le}
 use Rattle.runs.specs.Filler.{inputs_in, room}
 use Rattle.filler.specs.Write.{used_words}
@@ -21,18 +22,18 @@ slice_bounds-fill_within-end-2 c = sym (length-take-le _ _ (omega (arith, c.clea
 pub fill_within-requires : goal.fill_within-requires
 unfolding room used_words
 fill_within-requires c =
-    let fits : c.args.n + 2 * c.args.t ≤ length c.args.scratch.now = omega (arith, c.requires.scratch_room) in
+    let t = c.args.trace in
+    let fits : t.n + 2 * t.t ≤ length c.args.scratch.now = omega (arith, c.requires.scratch_room) in
     record {
       proper = c.requires.proper;
-      all = c.requires.all;
       out_room = c.requires.out_room;
-      scratch_used = length-take-le (c.args.n + 2 * c.args.t) c.clear.new.words (omega (arith, c.clear.auto, fits));
-      blank = used_blank (c.args.n + 2 * c.args.t) c.args.scratch.now c.clear.new.words c.clear.ensures fits;
+      scratch_used = length-take-le (t.n + 2 * t.t) c.clear.new.words (omega (arith, c.clear.auto, fits));
+      blank = used_blank (t.n + 2 * t.t) c.args.scratch.now c.clear.new.words c.clear.ensures fits;
     }
 
 pub returns : goal.returns
 unfolding room
 returns c =
-    let is = inputs_in c.args.rows.now in
-    let all = used_filled _ c.args.m c.args.t (take c.args.n is) (drop c.args.n is) c.args.out.now c.args.scratch.now c.clear.new.words (c.args.n + 2 * c.args.t) c.clear.ensures (omega (arith, c.requires.scratch_room)) c.fill_within.new.out c.fill_within.new.scratch c.fill_within.result (c.fill_within.ensures.answer, (c.fill_within.ensures.output, c.fill_within.ensures.words)) in
-    record { answer = all.0; output = all.1.0; words = all.1.1 }
+    let t = c.args.trace in
+    used_filled (modulus_of c.args.field) t.memory t.t (inputs_in t.inits.now) (inputs_in t.ops.now) c.args.out.now c.args.scratch.now c.clear.new.words (t.n + 2 * t.t) c.clear.ensures (omega (arith, c.requires.scratch_room))
+    c.fill_within.new.out c.fill_within.new.scratch c.fill_within.result c.fill_within.ensures

@@ -1,16 +1,11 @@
 -- `index::grow` meets its contract. The invariant of its loop: the whole tree is what the nodes
 -- left make of the words.
 -- Assumes nothing.
-use Prim.Native.Nat.{◌-◌, ◌≤◌}
+use Prim.Native.Nat.{◌-◌}
 use mathlib.Core.Path.{◌≡◌}
-use lib.ListN.{length}
 use Rattle.index.specs.Values.{values_in}
 use Rattle.index.specs.Tree.{grown_from, grown}
 use Rattle.index.proofs.grow.Given as goal
 
 abbrev pub invariant-loop-k : goal.invariant-loop-k
-invariant-loop-k l =
-    (1 ≤ l.k) × (length l.links ≡ length l.initial.links) × (grown (values_in l.inits) l.initial.links ≡ grown_from (values_in l.inits) l.k (l.n - l.k) l.links)
-
-abbrev pub decreases-loop-k : goal.decreases-loop-k
-decreases-loop-k l = l.n - l.k
+invariant-loop-k l = grown (values_in l.inits) l.initial.links ≡ grown_from (values_in l.inits) l.k (l.n - l.k) l.links

@@ -11,27 +11,15 @@ use Rattle.runs.proofs.FillStream.{cut_line}
 use Rattle.pieces.proofs.Feeds.{feed_within, lines_more}
 use Rattle.intake.proofs.lines_in.Goals as goal
 
-pub feed_from-at-requires : goal.feed_from-at-requires
-feed_from-at-requires c = tt
-
 pub loop-at-init : goal.loop-at-init
 unfolding bytes_in
 loop-at-init c = ((omega arith, refl), (refl, c.feed_from-at.ensures))
-
-pub line-intake-requires : goal.line-intake-requires
-line-intake-requires c = tt
-
-pub feed_from-at-requires-in-loop-at : goal.feed_from-at-requires-in-loop-at
-feed_from-at-requires-in-loop-at c = tt
 
 pub loop-at-preserved : goal.loop-at-preserved
 loop-at-preserved c =
     let q = modulus_of c.args.field in
     let more = lines_more (line_taken q) (cut_line q) (gathered c.args.intake c.args.words.now) (gathered c.loop-at.intake c.loop-at.words) (gathered c.line-intake.result c.line-intake.new.words) c.args.block.now c.loop-at.used c.loop-at.at in
     ((omega arith, c.line-intake.auto.words ∙ c.loop-at.invariant.0.1), (more c.loop-at.invariant.1.0 c.loop-at.invariant.1.1 c.loop-at-test.true c.line-intake.ensures, c.feed_from-at-in-loop-at.ensures))
-
-pub shape_of-words : goal.shape_of-words
-shape_of-words c = c.loop-at.invariant.0.1
 
 pub returns : goal.returns
 returns c =

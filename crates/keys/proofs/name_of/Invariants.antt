@@ -1,11 +1,7 @@
 -- `keys::name_of` meets its contract. The loop's invariant: the key of the bytes that were passed, with those that are left, is the key of the name.
 -- Assumes nothing.
-use Prim.Native.Nat.{◌-◌}
 use Rattle.keys.proofs.Names.{Naming}
 use Rattle.keys.proofs.name_of.Given as goal
 
 abbrev pub invariant-loop-i : goal.invariant-loop-i
 invariant-loop-i l = Naming l.text l.stop l.key l.i
-
-abbrev pub decreases-loop-i : goal.decreases-loop-i
-decreases-loop-i l = l.stop - l.i

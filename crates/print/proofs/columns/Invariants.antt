@@ -1,13 +1,12 @@
--- `print::columns` meets its contract. The invariant of its loop is `Rest`: what is still to come
--- after the first i numbers. The measure is how many those are.
--- Assumes nothing.
-use Prim.Native.Nat.{◌-◌, ◌≤◌}
-use lib.ListN.{length}
-use Rattle.print.proofs.Numbers.{Rest}
+-- What is still to come after the numbers before n leaves what all of them leave after what was put
+-- before.
+use Rattle.std.proofs.Common.{◌≡◌, length, drop}
+use Rattle.text.specs.Put.{put_after, written_after}
+use Rattle.print.specs.Rows.{columns_text}
 use Rattle.print.proofs.columns.Given as goal
 
-abbrev pub invariant-loop-i : goal.invariant-loop-i
-invariant-loop-i l = (l.i ≤ length l.ns) × Rest l.initial.buf l.initial.end l.ns l.buf l.end l.i
-
-abbrev pub decreases-loop-i : goal.decreases-loop-i
-decreases-loop-i l = length l.ns - l.i
+abbrev pub invariant-loop-n : goal.invariant-loop-n
+invariant-loop-n l = record {
+  answer : put_after (length l.buf) l.end (columns_text (drop l.n-index l.ns)) ≡ put_after (length l.fn.buf) l.fn.prior (columns_text l.ns);
+  slice : written_after l.buf l.end (columns_text (drop l.n-index l.ns)) ≡ written_after l.fn.buf l.fn.prior (columns_text l.ns);
+}

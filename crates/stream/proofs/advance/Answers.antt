@@ -1,8 +1,6 @@
 -- `stream::advance` meets its contract.
 -- Assumes nothing.
 use mathlib.Core.Path.{refl}
-use native.Mathlib.Omega.{arith}
-use lib.ListN.{length-take}
 use Rattle.field.specs.Moduli.{modulus_of}
 use Rattle.memory.specs.Stream.{line_of}
 use Rattle.memory.proofs.Stream.{cut_line}
@@ -10,14 +8,11 @@ use Rattle.pieces.proofs.Calls.{advanced}
 use Rattle.stream.specs.Progress.{left_by}
 use Rattle.stream.proofs.advance.Goals as goal
 
-pub slice_bounds-lines_in-end-2 : goal.slice_bounds-lines_in-end-2
-slice_bounds-lines_in-end-2 c = omega (arith, length-take c.smaller-end.result c.args.buf.now, c.smaller-end.ensures)
-
 pub returns : goal.returns
 unfolding left_by
 returns c =
     let taken = c.lines_in-taken in
-    let end = c.smaller-end in
+    let end = c.min-end in
     let a = c.args in
     let keep = c.keep-kept in
     let q = modulus_of a.progress.field in record {

@@ -1,10 +1,10 @@
--- `field::Field::fold` meets its contract: quotient and remainder by 2 ^ 31, added.
+-- `field::Field::fold` meets its contract: a fold of any width keeps the number modulo 2 ^ k − 1.
 -- Assumes nothing.
-use mathlib.Core.Path.{refl}
-use native.Mathlib.Omega.{arith}
+use Rattle.field.specs.Field.{p}
 use Rattle.field.specs.Fold.{fold_of}
+use Rattle.field.proofs.Fold.{same_fold}
 use Rattle.field.proofs.Field.fold.Goals as goal
 
-pub returns : goal.returns
-unfolding fold_of
-returns c = record { value = refl; small = omega arith }
+pub returns-clause-same : goal.returns-clause-same
+unfolding p fold_of
+returns-clause-same c = same_fold 31 c.args.x

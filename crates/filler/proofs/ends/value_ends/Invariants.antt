@@ -1,9 +1,9 @@
 -- `filler::ends::value_ends` meets its contract. The invariant of its loop: what is written and the
 -- rows left make up the whole.
 -- Assumes nothing.
-use Prim.Native.Nat.{◌*◌, ◌≤◌, ◌-◌}
+use Prim.Native.Nat.{◌*◌}
 use mathlib.Core.Path.{◌≡◌}
-use lib.ListN.{length, drop}
+use lib.ListN.{drop}
 use Rattle.index.specs.Values.{values_in}
 use Rattle.layout.specs.Laid.{laid}
 use Rattle.filler.specs.Ends.{value_ends}
@@ -11,7 +11,4 @@ use Rattle.filler.proofs.ends.value_ends.Given as goal
 
 abbrev pub invariant-loop-i : goal.invariant-loop-i
 invariant-loop-i l =
-    (l.i ≤ l.n) × (length l.out ≡ length l.initial.out) × (laid l.initial.out 0 (value_ends 0 (values_in l.inits) l.scratch) ≡ laid l.out (7 * l.i) (value_ends l.i (drop l.i (values_in l.inits)) l.scratch))
-
-abbrev pub decreases-loop-i : goal.decreases-loop-i
-decreases-loop-i l = l.n - l.i
+    laid l.initial.out 0 (value_ends 0 (values_in l.inits) l.scratch) ≡ laid l.out (7 * l.i) (value_ends l.i (drop l.i (values_in l.inits)) l.scratch)

@@ -1,10 +1,16 @@
 -- `filler::steps::step` meets its contract.
 -- Assumes nothing.
-use Rattle.filler.proofs.Advised.{ready_read, told_turned}
+use Rattle.filler.proofs.Advised.{told_turned, told_advanced}
 use Rattle.filler.proofs.steps.step.Goals as goal
 
-pub advise-advice-requires : goal.advise-advice-requires
-advise-advice-requires c = ready_read c.args.m c.args.w c.args.k c.args.at c.args.inits.now c.args.ops.now c.args.scratch.now c.read-row.ensures c.requires
+pub returns-clause-turned : goal.returns-clause-turned
+returns-clause-turned c =
+    let t = c.args.trace in
+    told_turned t.memory c.args.w c.args.k c.args.at t.inits.now t.ops.now c.args.scratch.now c.read-row.result c.read-row.ensures
+    c.advise.result.0 c.advise.result.1 c.advise.new.scratch c.advise.ensures c.args.out.now c.put.new.out c.put.ensures
 
-pub returns : goal.returns
-returns c = record { turned = (told_turned c.args.m c.args.w c.args.k c.args.at c.args.inits.now c.args.ops.now c.args.scratch.now c.read-row.ensures c.advise-advice.ensures c.args.out.now c.put.ensures).0; next = (told_turned c.args.m c.args.w c.args.k c.args.at c.args.inits.now c.args.ops.now c.args.scratch.now c.read-row.ensures c.advise-advice.ensures c.args.out.now c.put.ensures).1 }
+pub returns-clause-next : goal.returns-clause-next
+returns-clause-next c =
+    let t = c.args.trace in
+    told_advanced t.memory c.args.w c.args.k c.args.at t.inits.now t.ops.now c.args.scratch.now c.read-row.result c.read-row.ensures
+    c.advise.result.0 c.advise.result.1 c.advise.new.scratch c.advise.ensures

@@ -1,43 +1,30 @@
--- `fillfile::ending::rows` meets its contract. The loop's invariant: the rows passed stand behind
--- the names line.
+-- Each row is put behind those before it, and where one does not fit none that follow do.
 -- Assumes nothing.
-use native.Mathlib.Omega.{arith}
-use mathlib.Core.Path.{◌≡◌, refl, sym, ◌∙◌}
-use Rattle.fillfile.proofs.Texts.{names_first, row_fits, row_cut, filled_cut, filled_put}
+use Rattle.std.proofs.Common.{◌+◌, ◌∙◌, arith}
+use Rattle.memory.specs.Print.{row_text}
+use Rattle.print.specs.Rows.{row_in}
+use Rattle.fillfile.proofs.Texts.{put_text, put_more, put_cut, filled_none, filled_more, filled_rest}
 use Rattle.fillfile.proofs.ending.rows.Goals as goal
 
-pub shape_of-text-in_default : goal.shape_of-text-in_default
-shape_of-text-in_default c = c.row_names.auto.buf
-
-pub returns-in_default : goal.returns-in_default
-returns-in_default c =
-    let put = filled_cut c.args.text.now _ (sym c.in_default.is ∙ c.row_names.ensures.answer, c.row_names.ensures.slice) in
-    record { answer = put.0; slice = put.1 }
+pub returns-in_err-at : goal.returns-in_err-at
+returns-in_err-at c =
+    let rest = filled_rest c.args.out.now 0 c.args.count (omega arith) in
+    let put = put_cut _ _ rest.0 rest.1 (put_text _ 0 (filled_none _) (c.in_err-at.ensures.answer, c.in_err-at.ensures.slice)) in
+    record { answer = c.from_residual.ensures ∙ put.0; slice = put.1 }
 
 pub loop-k-init : goal.loop-k-init
-loop-k-init c = ((omega arith, refl), names_first c.args.text.now c.args.out.now c.in-At.at (sym c.in-At.is ∙ c.row_names.ensures.answer, c.row_names.ensures.slice) c.row_names.auto.buf)
+loop-k-init c = put_text _ 0 (filled_none _) (c.in_ok-at.ensures.answer, c.in_ok-at.ensures.slice)
 
-pub shape_of-text-in_default-filled_row : goal.shape_of-text-in_default-filled_row
-shape_of-text-in_default-filled_row c = c.filled_row.auto.buf ∙ (c.loop-k.invariant.0.1 ∙ c.row_names.auto.buf)
-
-pub returns-in_default-filled_row : goal.returns-in_default-filled_row
-returns-in_default-filled_row c =
-    let put =
-    filled_put c.args.text.now c.in-At.at _ (sym c.in-At.is ∙ c.row_names.ensures.answer, c.row_names.ensures.slice)
-    (row_cut c.row_names.new.buf c.in-At.at c.args.out.now c.loop-k.k c.loop-k.at c.args.count c.loop-k-test.true c.loop-k.invariant.1 (sym c.in_default-filled_row.is ∙ c.filled_row.ensures.answer, c.filled_row.ensures.slice))
-    in record { answer = put.0; slice = put.1 }
+pub returns-in_err-at-2 : goal.returns-in_err-at-2
+returns-in_err-at-2 c =
+    let k = c.loop-k.k in
+    let rest = filled_rest c.args.out.now (k + 1) c.args.count (omega arith) in
+    let row = put_more _ c.loop-k.at _ (row_text (row_in c.args.out.now k)) c.loop-k.invariant (c.in_err-at-2.ensures.answer, c.in_err-at-2.ensures.slice) in
+    let put = put_cut _ _ rest.0 rest.1 (put_text _ 0 (filled_more _ k) row) in
+    record { answer = c.from_residual-in_err-at-2.ensures ∙ put.0; slice = put.1 }
 
 pub loop-k-preserved : goal.loop-k-preserved
-loop-k-preserved c = (
-  (omega arith, c.filled_row.auto.buf ∙ c.loop-k.invariant.0.1),
-  row_fits c.row_names.new.buf c.in-At.at c.args.out.now c.loop-k.k c.loop-k.at c.loop-k.invariant.1 (sym c.in-At-filled_row.is ∙ c.filled_row.ensures.answer, c.filled_row.ensures.slice),
-)
-
-pub shape_of-text : goal.shape_of-text
-shape_of-text c = c.loop-k.invariant.0.1 ∙ c.row_names.auto.buf
-
-pub returns : goal.returns
-returns c =
-    let all : c.loop-k.k ≡ c.args.count = omega arith in
-    let put = filled_put c.args.text.now c.in-At.at _ (sym c.in-At.is ∙ c.row_names.ensures.answer, c.row_names.ensures.slice) (rw all at c.loop-k.invariant.1) in
-    record { answer = put.0; slice = put.1 }
+loop-k-preserved c =
+    let k = c.loop-k.k in
+    put_text _ 0 (filled_more _ k)
+    (put_more _ c.loop-k.at _ (row_text (row_in c.args.out.now k)) c.loop-k.invariant (c.in_ok-at-2.ensures.answer, c.in_ok-at-2.ensures.slice))

@@ -1,13 +1,23 @@
--- `field::moduli::Modulus::by_any` meets its contract.
+-- `field::moduli::Modulus::by_any` meets its contract: modulo 2³¹ − 1 the numbers of 32 bits give
+-- what the given ones would.
 -- Assumes nothing.
-use Rattle.field.proofs.Variants.{at31, at61, at_small}
+use mathlib.Core.Path.{◌∙◌}
+use Rattle.algebra.proofs.Modulo.{same_mul, same_of_eq, times_same}
+use Rattle.field.specs.Field.{mul_of, triple_of}
+use Rattle.field.proofs.Congruence.{triple_same}
+use Rattle.field.proofs.Variants.{at31}
 use Rattle.field.proofs.moduli.Modulus.by_any.Goals as goal
 
 pub returns-in-M31 : goal.returns-in-M31
-returns-in-M31 c = rw (at31 c.in-M31.is) c.any31.ensures
-
-pub returns-in-M61 : goal.returns-in-M61
-returns-in-M61 c = rw (at61 c.in-M61.is) c.by61.ensures
-
-pub returns-in-Small : goal.returns-in-Small
-returns-in-Small c = rw (at_small c.in-Small.is c.small.ensures.0) c.by_small.ensures
+unfolding mul_of triple_of
+returns-in-M31 c =
+    let a = c.args in
+    rw (at31 c.in-M31.is)
+    (c.mul.ensures
+    ∙ times_same c.word-in-M31-7.ensures
+    (same_of_eq
+    (c.triple-factor.ensures
+    ∙ triple_same a.a a.b a.c a.x a.y a.z c.word.ensures
+    (same_mul c.word-in-M31.ensures c.word-in-M31-4.ensures)
+    (same_mul c.word-in-M31-2.ensures c.word-in-M31-5.ensures)
+    (same_mul c.word-in-M31-3.ensures c.word-in-M31-6.ensures))))

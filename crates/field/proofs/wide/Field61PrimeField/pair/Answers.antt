@@ -1,0 +1,17 @@
+-- `field::wide::Field61::pair` meets its contract: the folded products are the same as the products
+-- modulo 2⁶¹ − 1.
+-- Assumes nothing.
+use mathlib.Core.Path.{◌∙◌}
+use Rattle.algebra.proofs.Modulo.{same_refl, same_trans}
+use Rattle.field.specs.Field.{sub_of, pair_of}
+use Rattle.field.proofs.Congruence.{pair_same}
+use Rattle.field.proofs.wide.Field61PrimeField.pair.Goals as goal
+
+pub returns : goal.returns
+unfolding sub_of pair_of
+returns c =
+    let a = c.args in
+    c.difference.ensures
+    ∙ pair_same a.a a.b a.x a.y same_refl
+    (same_trans c.fold-first.ensures.same c.product.ensures.value)
+    (same_trans c.fold-second.ensures.same c.product-2.ensures.value)

@@ -1,9 +1,0 @@
--- `lines::value_names_line` meets its contract: the bytes of its constant are those of the names line.
--- Assumes nothing.
-use Rattle.memory.specs.Text.{bytes}
-use Rattle.memory.specs.Names.{value_names}
-use Rattle.lines.proofs.value_names_line.Goals as goal
-
-pub returns : goal.returns
-unfolding value_names bytes
-returns c = c.names_line.ensures

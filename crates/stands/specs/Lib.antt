@@ -1,2 +1,0 @@
--- What the contracts of crate stands cite beside document 01's definitions.
-pub mod Answers
