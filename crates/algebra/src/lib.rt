@@ -1,2 +1,3 @@
-// Mathematics for any prime: definitions and statements in specs/, proofs in proofs/. There is no code.
+// Mathematics for any prime: definitions and statements in specs/, proofs in proofs/. There is no
+// code.
 #![tactic(auto)]

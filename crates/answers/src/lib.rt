@@ -1,4 +1,5 @@
-// The answer of a checker, in the part of its state that no challenge enters: whether rows are still taken, a refusal, and the end of file.
+// The answer of a checker, in the part of its state that no challenge enters: whether rows are
+// still taken, a refusal, and the end of file.
 #![tactic(auto)]
 
 ghost use Rattle.std.specs.Prelude.{◌≡◌};
@@ -16,7 +17,8 @@ pub fn takes_rows(c: Context) -> bool
     !c.ended & (c.answer == 0)
 }
 
-// A refusal on the line that stands so many lines after the rows that have passed.
+// A refusal on the line that stands so many lines after the rows that have passed. Its fault is a
+// number, as in a state, here and below.
 #[tactic(auto, unfolding(memory::specs::Step::refuse_at))]
 fn refuse_at(c: Context, fault: u32, lines: u32) -> Context
     ensures { result ≡ refuse_at c fault (raise c.passed lines) }

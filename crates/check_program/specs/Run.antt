@@ -11,7 +11,8 @@ use Rattle.memory.specs.Print.{report_text}
 use Rattle.memory.specs.Stream.{unopened, line_of}
 use Rattle.stdio.specs.declared.Failure.{Failure}
 use Rattle.stdio.specs.Write.{Prints}
-use Rattle.stream.specs.declared.Progress.{Progress}
+use Rattle.memory.specs.declared.Stand.{Stand}
+use Rattle.pieces.specs.declared.Progress.{Progress}
 
 -- of an input, and of an output before and after, by whether all is printed: the two lines for the
 -- input's bytes, modulo p
@@ -20,6 +21,6 @@ Checks input old new all = IfSome input (λ file. Prints (report_text (file_repo
 
 -- a progress modulo p stands for what is known after these bytes of the file, the last of which are
 -- kept
-pub record HasTaken (progress : Progress) (bytes kept : List ℕ) : Type 0 where
+pub record HasTaken (progress : Progress Stand) (bytes kept : List ℕ) : Type 0 where
   pub field : progress.field ≡ M31
-  pub known : piece progress.stand kept ≡ bytes_in (line_of p) (piece unopened []) bytes
+  pub known : piece progress.known kept ≡ bytes_in (line_of p) (piece unopened []) bytes

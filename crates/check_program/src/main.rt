@@ -8,15 +8,16 @@ ghost use Rattle.memory.specs.Print.{report_text};
 ghost use Rattle.check_program.specs.Run.{Checks, HasTaken};
 
 use field::moduli::Modulus;
+use memory::Stand;
+use pieces::Progress;
 use std::io;
 use stdio::Failure;
 use stdio::filter::{self, Filter};
-use stream::Progress;
 
 // What takes the file modulo p and prints the two lines.
 #[derive(Drop)]
 struct Check {
-    progress: Progress,
+    progress: Progress<Stand>,
 }
 
 impl Filter for Check {

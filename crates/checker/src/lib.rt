@@ -1,30 +1,28 @@
-// Rows to an answer: the fresh state of a value line, one row, the end of file, and what is printed of a state.
+// Rows to an answer: the fresh state of a value line, one row, the end of file, and what is printed
+// of a state.
 #![tactic(auto, unfolding(memory::specs::Step::with_context, memory::specs::Step::take_row, memory::specs::Step::passed_row, memory::specs::Step::fresh_context, memory::specs::Step::fresh_products, memory::specs::Step::fresh_of, crate::specs::Unread::unread_of, memory::specs::Step::take_parsed, memory::specs::Rows::row_below, memory::specs::Step::step_of, memory::specs::Step::end_of, memory::specs::Step::report_of, memory::specs::File::refused, memory::specs::Step::answer_of, memory::specs::Step::lent_step, memory::specs::Step::lent_end, memory::specs::Step::lent_answer,), using(memory::proofs::Fold::lent_ended_answer,),)]
 
 use field::moduli::Modulus;
-use memory::faults::{Fault, number};
+use memory::faults::Fault;
 use memory::{Context, Lent, Products, Report, Row, State, Values};
 use rules::counters;
 
 mod state;
 
-ghost use Rattle.std.specs.Prelude.{◌≡◌, cond, eqb};
+ghost use Rattle.std.specs.Prelude.{◌≡◌};
 ghost use Rattle.field.specs.Moduli.{modulus_of};
 ghost use Rattle.memory.specs.Step.{fresh_of, take_parsed, step_of, end_of, report_of, answer_of, lent_step, lent_end, lent_report, lent_answer};
 ghost use Rattle.checker.specs.Unread.{unread_of};
 
-// A fault of the value line stands on line 2.
-fn fault_line(fault: u32) -> u32
-    ensures { result ≡ cond (eqb fault 0) 0 2 }
-{
-    if fault == 0 { 0 } else { 2 }
-}
-
-// "The value line makes a fresh state": products start at 1, hashes at 0. Values with a fault make a state that has refused.
+// "The value line makes a fresh state": products start at 1, hashes at 0. Values with a fault make
+// a state that has refused.
 pub fn fresh(k: Modulus, values: Values) -> State
     ensures { result ≡ fresh_of (modulus_of k) values.memory values.size values.count values.challenge }
 {
-    let fault = number(&values::fault(k, values));
+    let (answer, line) = match values::fault(k, values) {
+        Ok(()) => (0, 0),
+        Err(fault) => (u32::from(fault), 2),
+    };
     State {
         context: Context {
             memory: values.memory,
@@ -36,8 +34,8 @@ pub fn fresh(k: Modulus, values: Values) -> State
             depths: 1,
             inputs: 0,
             mults: 0,
-            answer: fault,
-            line: fault_line(fault),
+            answer,
+            line,
             ended: false,
         },
         challenge: values.challenge,
@@ -52,7 +50,8 @@ pub fn fresh(k: Modulus, values: Values) -> State
     }
 }
 
-// The number of a line that reads as no row: 3, and any other fault counts as 2.
+// The number of a line that reads as no row: 3, and any other fault counts as 2. It was handed in,
+// and may be any number.
 fn unread_fault(parsed: Result<Row, u32>) -> u32
     ensures { result ≡ unread_of parsed }
 {
@@ -77,15 +76,7 @@ fn take(k: Modulus, s: State, parsed: Result<Row, u32>) -> State
     let Ok(row) = parsed else {
         return state::refuse(s, unread_fault(parsed));
     };
-    let numbers = [
-        row.guard,
-        row.addr,
-        row.value,
-        row.old,
-        row.time,
-        row.version,
-    ];
-    if !values::below(k, numbers) {
+    if !values::below(k, row.numbers()) {
         return state::refuse(s, u32::from(Fault::TooLarge));
     }
     state::take_row(k, s, row)
@@ -130,7 +121,8 @@ fn reported(answer: u32, line: u32, inputs: u32, mults: u32) -> Report
     }
 }
 
-// What is printed of a state: "answer (0 accept), line (0 if accepted), inputs, multiplications (0 if refused)". A state that still takes rows is an incomplete file.
+// What is printed of a state: "answer (0 accept), line (0 if accepted), inputs, multiplications (0
+// if refused)". A state that still takes rows is an incomplete file.
 pub fn report(s: State) -> Report
     ensures { result ≡ report_of s }
 {
@@ -190,7 +182,8 @@ pub fn row_in_place(s: &mut Lent, parsed: Result<Row, u32>) -> Report
     lent_answer(next)
 }
 
-// The end of file, of a state that is lent. No rows are taken then, so the answer is what is printed.
+// The end of file, of a state that is lent. No rows are taken then, so the answer is what is
+// printed.
 pub fn end_in_place(s: &mut Lent) -> Report
     ensures { (s.new ≡ lent_end s.old) × (result ≡ lent_report (lent_end s.old)) }
 {

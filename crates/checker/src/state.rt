@@ -7,7 +7,7 @@ use field::moduli::Modulus;
 use memory::faults::number;
 use memory::{Row, State};
 
-// A refusal on the line of the next row.
+// A refusal on the line of the next row, by a number, as in a state.
 pub(crate) fn refuse(s: State, fault: u32) -> State
     ensures { result ≡ with_context s (refuse_next s.context fault) }
 {

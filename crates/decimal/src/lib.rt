@@ -22,18 +22,23 @@ pub struct Number {
     pub next: usize,
 }
 
-// The position of the first such byte from a position on. Where there is none, it is the text's
-// length, or the position itself where that lies past the text. `position` over the rest of the text
-// would be no plainer: a start past the text, where there is no rest, would be a case of its own.
+// The position of the first such byte; where there is none, the text's length.
+fn position_in(text: &[u8], byte: u8) -> usize
+    ensures place { result ≡ position_or_len (λ b. b == byte) text.now }
+    ensures within { result ≤ length text.now }
+{
+    let found = text.iter().position(|b| *b == byte);
+    found.unwrap_or(text.len())
+}
+
+// The same from a position on. Where there is none, it is the text's length, or the position itself
+// where that lies past the text.
+#[tactic(auto, using(crate::proofs::Positions::drop_least))]
 pub fn position_from(text: &[u8], byte: u8, from: usize) -> usize
     ensures { result ≡ from + position_or_len (λ b. b == byte) (drop from text.now) }
 {
-    for i in from..text.len() {
-        if text[i] == byte {
-            return i;
-        }
-    }
-    from.max(text.len())
+    let start = from.min(text.len());
+    from + position_in(&text[start..], byte)
 }
 
 // The digits from a position on, before `stop`: 19 at most, whose number has 64 bits.
@@ -57,7 +62,8 @@ fn digits_at(text: &[u8], from: usize, stop: usize) -> Number
 }
 
 // The comma that stands at a position, and the number after it. Whatever follows its digits is left
-// for the next to read: another comma, or a byte, an eleventh digit too, at which no number is read.
+// for the next to read: another comma, or a byte, an eleventh digit too, at which no number is
+// read.
 pub fn number_at(text: &[u8], at: usize) -> Option<Number>
     ensures { result ≡ number_from at (drop at text.now) }
 {

@@ -1,6 +1,7 @@
-// The products and hashes after a row: section "The equations" of document 01, one function for each op. Those of rows that write no record of the memory are in module reads.
-// Modulus, challenge, context, row and products are handed on one by one, as the definition takes
-// them: of a struct of these every contract would name each field.
+// The products and hashes after a row: section "The equations" of document 01, one function for
+// each op. Those of rows that write no record of the memory are in module reads. Modulus,
+// challenge, context, row and products are handed on one by one, as the definition takes them: of a
+// struct of these every contract would name each field.
 #![tactic(auto, unfolding(memory::specs::Step::ram_clock, field::specs::Field::add_of, algebra::specs::Modulo::plus, memory::specs::Equations::new_of, memory::specs::Step::multiply, memory::specs::Step::multiplied, memory::specs::Step::written_by, memory::specs::Step::read_by, memory::specs::Step::supplied_by, memory::specs::Step::looked_by, memory::specs::Step::lookups_by, memory::specs::Step::enqueued_by, memory::specs::Step::dequeued_by, algebra::specs::Hash::hash_from, memory::specs::Names::is_op, memory::specs::Names::op_code, memory::specs::Equations::set_init, memory::specs::Equations::pop_lookup, field::specs::Field::sub_of, memory::specs::Equations::access_read, memory::specs::Equations::range_read, memory::specs::Equations::range_write, memory::specs::Equations::look_read, memory::specs::Equations::look_write, memory::specs::Equations::member_read, memory::specs::Equations::member_write, memory::specs::Equations::push_write, field::specs::Field::horner_of, memory::specs::Equations::pop_read, crate::specs::Left::left_by,), using(crate::proofs::Dequeued::nothing_dequeued, records::proofs::Reduced::minus_reduced, records::proofs::Reduced::factor_last_reduced, crate::proofs::Dequeued::dequeue_left, records::proofs::Reduced::factor_first_reduced, crate::proofs::Dequeued::end_left, records::proofs::Reduced::pair_first_reduced,),)]
 
 use field::moduli::Modulus;

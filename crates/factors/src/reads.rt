@@ -1,4 +1,5 @@
-// The products and hashes after a row that writes no record of the memory: a pop, a dequeue, an end row, a range row.
+// The products and hashes after a row that writes no record of the memory: a pop, a dequeue, an end
+// row, a range row.
 ghost use Rattle.std.specs.Prelude.{◌≡◌};
 ghost use Rattle.algebra.specs.Hash.{hash_from};
 ghost use Rattle.field.specs.Moduli.{modulus_of};
@@ -31,7 +32,8 @@ pub(crate) fn pop(k: Modulus, ch: Challenge, c: Context, row: Row, ps: Products)
     }
 }
 
-// The hash of what left a queue; no other memory has one. "An executed enqueue or dequeue makes its hash h·r + element."
+// The hash of what left a queue; no other memory has one. "An executed enqueue or dequeue makes its
+// hash h·r + element."
 fn left(k: Modulus, memory: Memory, executed: bool, hash: u64, r: u64, element: u64) -> u64
     ensures { result ≡ hash_from (modulus_of k) r hash (left_by memory executed element) }
 {
@@ -58,7 +60,8 @@ pub(crate) fn dequeue(k: Modulus, ch: Challenge, c: Context, row: Row, ps: Produ
     }
 }
 
-// "End reads (address, old, time)" or "(address, value, version)", a set's pair, "(i, old, time), i from 1 to D".
+// "End reads (address, old, time)" or "(address, value, version)", a set's pair, "(i, old, time), i
+// from 1 to D".
 fn end_read(k: Modulus, ch: Challenge, c: Context, row: Row, product: u64) -> u64
     ensures { result ≡ multiplied (modulus_of k) ch product (read_by (modulus_of k) c row c.memory Op.End) }
 {

@@ -18,7 +18,7 @@ use Rattle.memory.specs.Names.{op_code, is_op, op_coded}
 use Rattle.memory.specs.Rows.{ops_due, op_in, formed, used, columns, used_or_zero}
 use Rattle.runs.specs.Honest.{Input, bare, filled_row}
 use Rattle.runs.specs.Filler.{input_fault}
-use Rattle.faults.specs.Inputs.{input_of}
+use Rattle.words.specs.Inputs.{input_of}
 use Rattle.faults.specs.Scan.{init_fault}
 
 -- a number below 10 stands for an op of that number

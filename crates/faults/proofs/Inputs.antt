@@ -12,7 +12,7 @@ use Rattle.runs.specs.Honest.{Input}
 use Rattle.runs.specs.Filler.{inputs_in}
 use Rattle.index.specs.Values.{values_in}
 use Rattle.index.proofs.Values.{values_many}
-use Rattle.faults.specs.Inputs.{input_at}
+use Rattle.words.specs.Inputs.{input_at}
 
 four_more : (k j : ℕ) → 4 * suc k + j ≡ suc (suc (suc (suc (4 * k + j))))
 four_more k j = omega arith

@@ -27,8 +27,7 @@ use Rattle.memory.specs.Rows.{ops_due}
 use Rattle.runs.specs.Honest.{Input}
 use Rattle.runs.specs.Filler.{inputs_in, input_fault, placed}
 use Rattle.words.specs.declared.Input as words
-use Rattle.words.specs.Inputs.{op_at, guard_at, words_at}
-use Rattle.faults.specs.Inputs.{input_of, input_at}
+use Rattle.words.specs.Inputs.{op_at, guard_at, words_at, input_of, input_at}
 use Rattle.faults.specs.Scan.{emptied, refusal, moved, leveled, fault_at, scanned, init_fault, inits_scanned}
 use Rattle.faults.proofs.Inputs.{inputs_cons, inputs_many}
 use Rattle.faults.proofs.Codes.{is_coded, input}

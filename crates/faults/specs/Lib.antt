@@ -1,4 +1,3 @@
-pub mod Inputs
 pub mod Scan
 pub mod Statements
 pub mod Promises

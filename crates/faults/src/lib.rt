@@ -7,9 +7,8 @@ ghost use Rattle.std.specs.Prelude.{◌≡◌, ◌^◌, ◌<◌};
 ghost use Rattle.field.specs.Moduli.{modulus_of};
 ghost use Rattle.memory.specs.Faults.{fault_of};
 ghost use Rattle.runs.specs.Filler.{inputs_in};
-ghost use Rattle.runs.specs.Given.{given_input};
 ghost use Rattle.index.specs.Values.{values_in};
-ghost use Rattle.faults.specs.Inputs.{input_of};
+ghost use Rattle.words.specs.Inputs.{input_of};
 ghost use Rattle.faults.specs.Scan.{outside, emptied, missing, refusal, moved, leveled, fault_at, init_fault, inits_scanned, in_tree, operations_scanned, first_of, placed_of};
 
 use field::moduli::Modulus;
@@ -59,10 +58,7 @@ fn emptied(up: bool, guard: u64, level: usize) -> Result<(), Fault>
 fn missing(tree: Tree, value: u64) -> Result<(), Fault>
     ensures { fault_of result ≡ missing (in_tree (values_in tree.entry.inits.now) tree.entry.links.now) value }
 {
-    match tree.find(value) {
-        Some(_) => Ok(()),
-        None => Err(Fault::NotMember),
-    }
+    tree.find(value).map(|_| ()).ok_or(Fault::NotMember)
 }
 
 // 11, 12 and 13, at a level.
@@ -106,24 +102,12 @@ fn leveled(m: Memory, level: usize, op: u64, guard: u64) -> usize
     }
 }
 
-// The input row that the words of a row stand for.
-fn given(row: Input) -> Given
-    ensures { given_input result ≡ input_of row }
-{
-    Given {
-        op: Op::from(row.op),
-        guard: row.guard,
-        addr: row.addr,
-        value: row.value,
-    }
-}
-
 // The fault of an init row.
 #[tactic(auto, unfolding(crate::specs::Scan::init_fault))]
 fn init_fault(field: Modulus, row: Input) -> Result<(), Fault>
     ensures { fault_of result ≡ init_fault (modulus_of field) (input_of row) }
 {
-    inputs::fault(field, Memory::Ram, Phase::Starting, given(row))
+    inputs::fault(field, Memory::Ram, Phase::Starting, Given::from(row))
 }
 
 // The fault of an operation at a level: 3, 5, 6, then 11, 12, 13.
@@ -137,7 +121,7 @@ fn operation_fault(
 ) -> Result<(), Fault>
     ensures { fault_of result ≡ fault_at (modulus_of field) m (in_tree (values_in tree.entry.inits.now) tree.entry.links.now) level (input_of row) }
 {
-    inputs::fault(field, m, Phase::Operating, given(row))?;
+    inputs::fault(field, m, Phase::Operating, Given::from(row))?;
     refusal(m, level, row, tree)
 }
 
@@ -147,17 +131,15 @@ fn scan_inits(field: Modulus, inits: &[u64]) -> Result<(), Refused>
     ensures { placed_of result ≡ inits_scanned (modulus_of field) 1 (inputs_in inits.now) }
 {
     for k in 0..inits.len() / 4 {
-        if let Err(fault) = init_fault(field, words::read(inits, k)) {
-            return Err(Refused {
-                fault,
-                place: k + 1,
-            });
-        }
+        init_fault(field, words::read(inits, k)).map_err(|fault| Refused {
+            fault,
+            place: k + 1,
+        })?;
     }
     Ok(())
 }
 
-// The first fault of the operations.
+// The first fault of the operations. Unlike that of the init rows, it carries a level.
 #[tactic(auto, unfolding(crate::specs::Scan::operations_scanned), using(crate::proofs::Scanned::operations_refused, crate::proofs::Scanned::operations_passed, crate::proofs::Scanned::operations_done, crate::proofs::Scanned::leveled_rise, crate::proofs::Inputs::inputs_many))]
 fn scan_operations(field: Modulus, m: Memory, tree: Tree, ops: &[u64]) -> Result<(), Refused>
     ensures { placed_of result ≡ operations_scanned (modulus_of field) m tree.entry.inits.now tree.entry.links.now ops.now }
@@ -166,12 +148,10 @@ fn scan_operations(field: Modulus, m: Memory, tree: Tree, ops: &[u64]) -> Result
     let mut level = n;
     for k in 0..ops.len() / 4 {
         let row = words::read(ops, k);
-        if let Err(fault) = operation_fault(field, m, level, row, tree) {
-            return Err(Refused {
-                fault,
-                place: n + k + 1,
-            });
-        }
+        operation_fault(field, m, level, row, tree).map_err(|fault| Refused {
+            fault,
+            place: n + k + 1,
+        })?;
         level = leveled(m, level, row.op, row.guard);
     }
     Ok(())

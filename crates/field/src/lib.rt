@@ -97,7 +97,8 @@ impl Field {
     }
 
     // A product times the factor of a triple, and of a pair, for numbers of 31 bits: nothing is
-    // folded before the sum.
+    // folded before the sum. A pair has a function of its own, as a row then takes a multiplication
+    // fewer. The challenge is no struct here: its type is memory's, above this crate.
     pub(crate) fn by_triple(
         product: u64,
         r: u64,

@@ -147,7 +147,7 @@ impl Modulus {
         }
     }
 
-    // A product times the factor of a pair, in the same way.
+    // A product times the factor of a pair, in the same way, and a multiplication fewer.
     pub fn by_pair(self, product: u64, r: u64, a: u64, b: u64, x: u64, y: u64) -> u64
         ensures { result ≡ mul_of (modulus_of self) product (pair_of (modulus_of self) r a b x y) }
     {

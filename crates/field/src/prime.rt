@@ -46,7 +46,7 @@ pub trait PrimeField {
     ) -> Self::Element
         ensures { number result ≡ triple_of prime (number r) (number a) (number b) (number c) (number x) (number y) (number z) };
 
-    // The factor of a pair.
+    // The factor of a pair: an operation of its own in document 01.
     fn pair(
         r: Self::Element,
         a: Self::Element,

@@ -1,5 +1,5 @@
-// A line to its fields: a name, told by its key, and numbers. Section "The file" of document 01, and 2 and 3 of section "The numbers".
-// Every slice is read, whatever it holds.
+// A line to its fields: a name, told by its key, and numbers. Section "The file" of document 01,
+// and 2 and 3 of section "The numbers". Every slice is read, whatever it holds.
 #![tactic(auto)]
 
 ghost use Rattle.std.specs.Prelude.{◌≡◌, suc, length};
@@ -26,7 +26,8 @@ pub struct Found {
     pub below: bool,
 }
 
-// What a line reads as that is to have a name and as many numbers as are lent. `None` is 2; which numbers the slice then holds is free; it is as long as it was.
+// What a line reads as that is to have a name and as many numbers as are lent. `None` is 2; which
+// numbers the slice then holds is free; it is as long as it was.
 pub fn read(k: Modulus, line: &Written, numbers: &mut [u64]) -> Option<Found>
     ensures answer { taken_of numbers.new result ≡ fields_taken (modulus_of k) (length numbers.old) (as_line line.now) }
     ensures many { length numbers.new ≡ length numbers.old }
@@ -56,7 +57,8 @@ pub fn read(k: Modulus, line: &Written, numbers: &mut [u64]) -> Option<Found>
     })
 }
 
-// The key of the name of a line that reads as a name and numbers below the modulus; or the line's fault, 2 before 3.
+// The key of the name of a line that reads as a name and numbers below the modulus; or the line's
+// fault, 2 before 3.
 pub fn sound(k: Modulus, line: &Written, numbers: &mut [u64]) -> Result<u64, Fault>
     ensures answer { keyed_of numbers.new result ≡ by_key (fields_of (modulus_of k) (suc (length numbers.old)) (as_line line.now)) }
     ensures many { length numbers.new ≡ length numbers.old }

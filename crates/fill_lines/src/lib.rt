@@ -1,5 +1,6 @@
-// The lines of the filling program's input: its two names lines, its value line of three fields and its row line of four. Section "The filler" of document 01.
-// Every slice is read, whatever it holds.
+// The lines of the filling program's input: its two names lines, its value line of three fields and
+// its row line of four. Section "The filler" of document 01. Every slice is read, whatever it
+// holds.
 #![tactic(auto)]
 
 ghost use Rattle.std.specs.Prelude.{◌≡◌, get_or};

@@ -8,7 +8,8 @@ use Rattle.field.specs.declared.moduli.Modulus.TheVariants.{M31}
 use Rattle.memory.specs.Pieces.{piece, bytes_in}
 use Rattle.runs.specs.FillFile.{fill_limit, fill_text}
 use Rattle.runs.specs.FillStream.{gathered, line_taken, unfilled}
-use Rattle.fillfile.specs.declared.Progress.{Progress}
+use Rattle.runs.specs.declared.Intake.{Intake}
+use Rattle.pieces.specs.declared.Progress.{Progress}
 use Rattle.stdio.specs.declared.Failure.{Failure}
 use Rattle.stdio.specs.Write.{Prints}
 
@@ -18,11 +19,11 @@ Roomy words = 4 * (fill_limit + fill_limit) ≤ length words
 
 -- a progress modulo p and the words of the rows stand for what is known after these bytes of the
 -- input, the last of which are kept
-pub record HasTaken (progress : Progress) (words bytes kept : List ℕ) : Type 0 where
+pub record HasTaken (progress : Progress Intake) (words bytes kept : List ℕ) : Type 0 where
   pub start : List ℕ
   pub room : Roomy start
   pub field : progress.field ≡ M31
-  pub known : piece (gathered progress.intake words) kept ≡ bytes_in (line_taken p) (unfilled start) bytes
+  pub known : piece (gathered progress.known words) kept ≡ bytes_in (line_taken p) (unfilled start) bytes
 
 -- of an input, and of an output before and after, by whether all is printed: what the filling
 -- program prints for the input's bytes, modulo p

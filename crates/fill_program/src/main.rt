@@ -8,7 +8,8 @@ ghost use Rattle.runs.specs.FillFile.{fill_text};
 ghost use Rattle.fill_program.specs.Run.{Fills, HasTaken};
 
 use field::moduli::Modulus;
-use fillfile::Progress;
+use pieces::Progress;
+use runs::Intake;
 use std::io;
 use stdio::Failure;
 use stdio::filter::{self, Filter};
@@ -17,7 +18,7 @@ use stdio::filter::{self, Filter};
 // the text.
 #[derive(Drop)]
 struct Fill {
-    progress: Progress,
+    progress: Progress<Intake>,
     words: [u64; fillfile::WORDS],
 }
 

@@ -1,13 +1,13 @@
--- The end rows and range rows that the scratch words give, written one at a time, and how many they
--- are.
+-- The end rows and range rows that the scratch words give, written one at a time, how many they are,
+-- and that they are those that the part of the words gives which is lent.
 -- Assumes nothing.
 use Prim.Native.Nat.{ℕ, zero, suc, ◌+◌, ◌-◌, ◌*◌, ◌/◌, ◌≤◌, ◌<◌}
 use native.Mathlib.Omega.{arith}
 use native.Mathlib.Numerals.{add-one}
 use mathlib.Core.Path.{◌≡◌, refl, sym, ap, ◌∙◌}
-use mathlib.Core.List.{List, [], ◌∷◌}
-use lib.ListN.{length, get_or, drop, length-append, drop_of_length-le}
-use lib.Seq.{sets}
+use mathlib.Core.List.{List, [], ◌∷◌, ◌++◌}
+use lib.ListN.{length, get_or, take, drop, length-append, length-drop, drop_of_length-le}
+use lib.Seq.{sets, get_or-take, get_or-drop, length-take-le}
 use Rattle.memory.specs.declared.Memory.{Memory}
 use Rattle.memory.specs.declared.Memory.TheVariants.{Ram, Rom, Set, Stack, Queue}
 use Rattle.memory.specs.Names.{op_code}
@@ -52,14 +52,14 @@ cells_turn inits ops j c i s out out' h room put =
     ∙ laid_put out i _ _ _ (end_words 0 content time 0) (omega arith)
     ∙ (λ x. laid (sym put x) (7 * (i + 1)) (cell_ends inits ops (one_later j i x) (c - (i + 1)) s))
 
-pub ranges_turn : (j c i : ℕ) (s out out' : List ℕ) → i < c → 7 * c ≤ length out
-    → out' ≡ sets out (7 * i) (9 ∷ 0 ∷ 0 ∷ 0 ∷ 0 ∷ 0 ∷ get_or s (j + i) 0 ∷ [])
-    → laid out (7 * i) (ranges (j + i) (c - i) s) ≡ laid out' (7 * (i + 1)) (ranges (j + (i + 1)) (c - (i + 1)) s)
+pub ranges_turn : (c i : ℕ) (s out out' : List ℕ) → i < c → 7 * c ≤ length out
+    → out' ≡ sets out (7 * i) (9 ∷ 0 ∷ 0 ∷ 0 ∷ 0 ∷ 0 ∷ get_or s i 0 ∷ [])
+    → laid out (7 * i) (ranges i (c - i) s) ≡ laid out' (7 * (i + 1)) (ranges (i + 1) (c - (i + 1)) s)
 unfolding ranges
-ranges_turn j c i s out out' h room put =
-    ap (λ (n : ℕ). laid out (7 * i) (ranges (j + i) n s)) (less_by_one c i h)
-    ∙ laid_put out i _ _ _ (range_words (get_or s (j + i) 0)) (omega arith)
-    ∙ (λ x. laid (sym put x) (7 * (i + 1)) (ranges (one_later j i x) (c - (i + 1)) s))
+ranges_turn c i s out out' h room put =
+    ap (λ (n : ℕ). laid out (7 * i) (ranges i n s)) (less_by_one c i h)
+    ∙ laid_put out i _ _ _ (range_words (get_or s i 0)) (omega arith)
+    ∙ (λ x. laid (sym put x) (7 * (i + 1)) (ranges (sym (add-one i) x) (c - (i + 1)) s))
 
 pub values_turn : (i : ℕ) (inits s out out' : List ℕ) → 4 * i + 4 ≤ length inits → 7 * i + 7 ≤ length out
     → out' ≡ sets out (7 * i) (8 ∷ 0 ∷ 0 ∷ value_at inits i ∷ 0 ∷ 0 ∷ lookups_in (get_or s i 0) ∷ [])
@@ -77,11 +77,11 @@ cells_done inits ops j c i s out h =
     let none : c - i ≡ 0 = omega arith in
     ap (λ (n : ℕ). laid out (7 * i) (cell_ends inits ops (j + i) n s)) none ∙ laid_none out (7 * i)
 
-pub ranges_done : (j c i : ℕ) (s out : List ℕ) → c ≤ i → laid out (7 * i) (ranges (j + i) (c - i) s) ≡ out
+pub ranges_done : (c i : ℕ) (s out : List ℕ) → c ≤ i → laid out (7 * i) (ranges i (c - i) s) ≡ out
 unfolding ranges
-ranges_done j c i s out h =
+ranges_done c i s out h =
     let none : c - i ≡ 0 = omega arith in
-    ap (λ (n : ℕ). laid out (7 * i) (ranges (j + i) n s)) none ∙ laid_none out (7 * i)
+    ap (λ (n : ℕ). laid out (7 * i) (ranges i n s)) none ∙ laid_none out (7 * i)
 
 pub values_done : (i : ℕ) (inits s out : List ℕ) → length inits ≤ 4 * i → laid out (7 * i) (value_ends i (drop i (values_in inits)) s) ≡ out
 unfolding value_ends
@@ -93,10 +93,13 @@ unfolding cell_ends
 cells_count inits ops j zero s = refl
 cells_count inits ops j (suc c) s = ap suc (cells_count inits ops (suc j) c s)
 
-pub ranges_count : (j t : ℕ) (s : List ℕ) → length (ranges j t s) ≡ t
+ranges_count : (j t : ℕ) (s : List ℕ) → length (ranges j t s) ≡ t
 unfolding ranges
 ranges_count j zero s = refl
 ranges_count j (suc t) s = ap suc (ranges_count (suc j) t s)
+
+pub more_count : (inits ops : List ℕ) (j c w t : ℕ) (s : List ℕ) → length (cell_ends inits ops j c s ++ ranges w t s) ≡ length (cell_ends inits ops j c s) + t
+more_count inits ops j c w t s = omega (arith, length-append (cell_ends inits ops j c s) (ranges w t s), ranges_count w t s)
 
 values_ends_each : (j : ℕ) (vs s : List ℕ) → length (value_ends j vs s) ≡ length vs
 unfolding value_ends
@@ -106,11 +109,40 @@ values_ends_each j (v ∷ vs) s = ap suc (values_ends_each (suc j) vs s)
 pub values_ends_count : (inits s : List ℕ) → length (value_ends 0 (values_in inits) s) ≡ length inits / 4
 values_ends_count inits s = values_ends_each 0 (values_in inits) s ∙ values_many inits
 
+-- the rows by the part of the words that is lent
+values_by_part : (w : ℕ) (s : List ℕ) (j : ℕ) (vs : List ℕ) → j + length vs ≤ w → value_ends j vs (take w s) ≡ value_ends j vs s
+unfolding value_ends
+values_by_part w s j [] h = refl
+values_by_part w s j (v ∷ vs) h =
+    λ x. end_row v 0 0 (lookups_in (get_or-take w s j 0 (omega arith) x)) ∷ values_by_part w s (suc j) vs (omega arith) x
+
+pub values_lent : (w : ℕ) (inits s : List ℕ) → 4 * w ≡ length inits → value_ends 0 (values_in inits) (take w s) ≡ value_ends 0 (values_in inits) s
+values_lent w inits s h = values_by_part w s 0 (values_in inits) (omega (arith, values_many inits))
+
+ranges_by_part : (w t : ℕ) (s : List ℕ) (j c : ℕ) → j + c ≤ t → ranges j c (take t (drop w s)) ≡ ranges (w + j) c s
+unfolding ranges
+ranges_by_part w t s j zero h = refl
+ranges_by_part w t s j (suc c) h =
+    let later : w + suc j ≡ suc (w + j) = omega arith in
+    let word : get_or (take t (drop w s)) j 0 ≡ get_or s (w + j) 0 = get_or-take t (drop w s) j 0 (omega arith) ∙ get_or-drop w s j 0 in
+    let rest : ranges (suc j) c (take t (drop w s)) ≡ ranges (suc (w + j)) c s = ranges_by_part w t s (suc j) c (omega arith) ∙ ap (λ (k : ℕ). ranges k c s) later in
+    λ x. range_row (word x) ∷ rest x
+
+pub ranges_lent : (w t : ℕ) (s part : List ℕ) → w + t ≤ length s → part ≡ take (w + t - w) (drop w s) → ranges 0 (length part) part ≡ ranges w t s
+ranges_lent w t s part h is =
+    let long : length part ≡ t = omega (arith, ap length is, length-take-le (w + t - w) (drop w s) (omega (arith, length-drop w s)), length-drop w s) in
+    let many : w + t - w ≡ t = omega arith in
+    let first : w + 0 ≡ w = omega arith in
+    ap (λ (c : ℕ). ranges 0 c part) long
+    ∙ ap (λ (l : List ℕ). ranges 0 t l) (is ∙ ap (λ (c : ℕ). take c (drop w s)) many)
+    ∙ ranges_by_part w t s 0 t (omega arith)
+    ∙ ap (λ (k : ℕ). ranges k t s) first
+
 -- the rows after the operations have room
 pub ending_room : (m : Memory) (w t : ℕ) (at : Cursor) (inits ops s out : List ℕ) → EndingFits m w t at inits s out → 7 * length (ending m w t at inits ops s) ≤ length out
 unfolding ending
-ending_room Ram w t at inits ops s out f = omega (arith, length-append (cell_ends inits ops 0 w s) (ranges w t s), cells_count inits ops 0 w s, ranges_count w t s, f.room)
+ending_room Ram w t at inits ops s out f = omega (arith, more_count inits ops 0 w w t s, cells_count inits ops 0 w s, f.room)
 ending_room Rom w t at inits ops s out f = omega (arith, values_ends_count inits s, f.count, f.room)
 ending_room Set w t at inits ops s out f = omega (arith, values_ends_count inits s, f.count, f.room)
-ending_room Stack w t at inits ops s out f = omega (arith, length-append (cell_ends inits ops 0 at.tail s) (ranges w t s), cells_count inits ops 0 at.tail s, ranges_count w t s, f.room)
+ending_room Stack w t at inits ops s out f = omega (arith, more_count inits ops 0 at.tail w t s, cells_count inits ops 0 at.tail s, f.room)
 ending_room Queue w t at inits ops s out f = omega (arith, cells_count inits ops at.head (at.tail - at.head) s, f.within, f.room)

@@ -15,9 +15,8 @@ use borrow.Author.Tests.{eqb-true, eqb-false}
 use Rattle.runs.specs.Honest.{Input, bare}
 use Rattle.runs.specs.Filler.{inputs_in, Placed, placed}
 use Rattle.words.specs.declared.Input as words
-use Rattle.words.specs.Inputs.{value_at, op_at, guard_at, addr_at, words_at}
+use Rattle.words.specs.Inputs.{value_at, op_at, guard_at, addr_at, words_at, input_at}
 use Rattle.layout.specs.Laid.{laid}
-use Rattle.faults.specs.Inputs.{input_at}
 use Rattle.filler.specs.Words.{copied}
 use Rattle.faults.specs.Scan.{init_fault, inits_scanned}
 use Rattle.faults.proofs.Inputs.{inputs_cons, inputs_many}

@@ -12,10 +12,9 @@ use lib.ListN.{length, take, drop}
 use Rattle.memory.specs.Names.{op_coded}
 use Rattle.runs.specs.Honest.{Input}
 use Rattle.runs.specs.Filler.{inputs_in}
-use Rattle.words.specs.Inputs.{value_at}
+use Rattle.words.specs.Inputs.{value_at, input_at}
 use Rattle.index.specs.Values.{values_in}
 use Rattle.index.proofs.Values.{values_many}
-use Rattle.faults.specs.Inputs.{input_at}
 use Rattle.faults.proofs.Inputs.{four_more₀, inputs_cons, inputs_many}
 
 pub inputs_count : (inputs : List ℕ) (n : ℕ) → 4 * n ≡ length inputs → length (inputs_in inputs) ≡ n

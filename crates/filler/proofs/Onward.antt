@@ -23,9 +23,8 @@ use Rattle.memory.specs.Rows.{ops_due, limit}
 use Rattle.runs.specs.Plain.{among}
 use Rattle.runs.specs.Honest.{Input, filled_row}
 use Rattle.runs.specs.Filler.{inputs_in, row_numbers, input_fault, Placed, placed}
-use Rattle.words.specs.Inputs.{value_at, op_at, guard_at, addr_at}
+use Rattle.words.specs.Inputs.{value_at, op_at, guard_at, addr_at, input_at}
 use Rattle.layout.specs.Laid.{laid}
-use Rattle.faults.specs.Inputs.{input_at}
 use Rattle.filler.specs.Words.{copied}
 use Rattle.faults.specs.Scan.{emptied, refusal, leveled, fault_at, scanned}
 use Rattle.filler.specs.Write.{in_set}

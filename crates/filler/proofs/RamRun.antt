@@ -17,10 +17,9 @@ use lib.Seq.{sets, get_or-set_same, get_or-set_other}
 use Rattle.memory.specs.declared.Memory.TheVariants.{Ram}
 use Rattle.runs.specs.Honest.{Cell, cell, cell_at, filled_row, range_rows_from, occurrences, ram_age, ram_row, ram_cells, ram_ends, ram_from, operations_filled}
 use Rattle.runs.specs.Filler.{inputs_in}
-use Rattle.words.specs.Inputs.{value_at, op_at, guard_at, addr_at}
+use Rattle.words.specs.Inputs.{value_at, op_at, guard_at, addr_at, input_at}
 use Rattle.words.specs.Cells.{span, packed, source_in, time_in, content_in}
 use Rattle.index.specs.Values.{values_in}
-use Rattle.faults.specs.Inputs.{input_at}
 use Rattle.filler.specs.Steps.{Turn, turn_of, counted, ram_source, ram_told, RamReady}
 use Rattle.filler.specs.Ends.{cell_ends, ranges}
 use Rattle.faults.specs.Scan.{leveled}

@@ -11,10 +11,9 @@ use lib.Seq.{sets}
 use Rattle.memory.specs.declared.Memory.TheVariants.{Rom}
 use Rattle.runs.specs.Honest.{filled_row, end_row, occurrences, rom_from, rom_ends_from, operations_filled}
 use Rattle.runs.specs.Filler.{inputs_in, row_numbers}
-use Rattle.words.specs.Inputs.{value_at, op_at, guard_at, addr_at}
+use Rattle.words.specs.Inputs.{value_at, op_at, guard_at, addr_at, input_at}
 use Rattle.words.specs.Counts.{lookup, lookups_in}
 use Rattle.index.specs.Values.{values_in}
-use Rattle.faults.specs.Inputs.{input_at}
 use Rattle.filler.specs.Steps.{Turn, turn_of, rom_told, RomReady}
 use Rattle.filler.specs.Ends.{value_ends}
 use Rattle.faults.specs.Scan.{leveled}

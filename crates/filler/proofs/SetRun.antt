@@ -18,10 +18,9 @@ use Rattle.memory.specs.declared.Memory.TheVariants.{Set}
 use Rattle.runs.specs.Plain.{among}
 use Rattle.runs.specs.Honest.{filled_row, end_row, occurrences, set_from, set_ends_from, operations_filled}
 use Rattle.runs.specs.Filler.{inputs_in, row_numbers}
-use Rattle.words.specs.Inputs.{value_at, op_at, guard_at, addr_at}
+use Rattle.words.specs.Inputs.{value_at, op_at, guard_at, addr_at, input_at}
 use Rattle.words.specs.Counts.{lookup, lookups_in, links_in}
 use Rattle.index.specs.Values.{values_in, first_at}
-use Rattle.faults.specs.Inputs.{input_at}
 use Rattle.index.specs.Tree.{grown}
 use Rattle.filler.specs.Words.{TreeIn}
 use Rattle.filler.specs.Steps.{Turn, turn_of, key_counted, set_told, SetReady}

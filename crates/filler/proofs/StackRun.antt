@@ -20,10 +20,9 @@ use Rattle.memory.specs.Names.{op_code, is_op}
 use Rattle.runs.specs.Honest.{Cell, cell, cell_at, top_cell, filled_row, bare, end_row, range_rows_from, occurrences, stack_ends, pop_row, pop_time as honestTime, stack_from, operations_filled}
 use Rattle.runs.specs.Filler.{inputs_in, row_numbers}
 use Rattle.filler.specs.declared.steps.Cursor.{Cursor}
-use Rattle.words.specs.Inputs.{value_at, op_at, guard_at, addr_at}
+use Rattle.words.specs.Inputs.{value_at, op_at, guard_at, addr_at, input_at}
 use Rattle.words.specs.Cells.{packed, time_in, content_in}
 use Rattle.index.specs.Values.{values_in}
-use Rattle.faults.specs.Inputs.{input_at}
 use Rattle.filler.specs.Words.{copied}
 use Rattle.filler.specs.Steps.{Turn, made, turn_of, counted, Countable, top_word, pop_time, push_told, pushed, pop_told, popped, stack_told, stacked, StackReady}
 use Rattle.filler.specs.Ends.{cell_ends, ranges}

@@ -38,11 +38,6 @@ pub record CellsFit (j count : ℕ) (s out : List ℕ) : Type 0 where
   pub held : j + count ≤ length s
   pub room : 7 * count ≤ length out
 
--- so many lookups from word j on are there, and their rows have room
-pub record LookupsFit (j count : ℕ) (s out : List ℕ) : Type 0 where
-  pub held : j + count ≤ length s
-  pub room : 7 * count ≤ length out
-
 -- so many of w cells from the first on, and then range rows
 pub record CellsAndRangesFit (w t count : ℕ) (s out : List ℕ) : Type 0 where
   pub within : count ≤ w

@@ -153,12 +153,7 @@ pub fn fill(
     ensures output { out.new ≡ (fill_of (modulus_of field) memory size count rows.now out.old scratch.old).output }
     ensures words { scratch.new ≡ (fill_of (modulus_of field) memory size count rows.now out.old scratch.old).scratch }
 {
-    let Ok(memory) = Memory::try_from(memory) else {
-        return Err(Refused {
-            fault: Fault::NotAllowed,
-            place: 0,
-        });
-    };
+    let memory = Memory::try_from(memory)?;
     turned_away(memory, size, count, rows.len(), out.len(), scratch.len())?;
     let n = size as usize;
     let t = count as usize;
@@ -169,6 +164,7 @@ pub fn fill(
         t,
         inits,
         ops,
+        width: trace::width_of(memory, n, t),
     };
     fill_rows(field, trace, out, scratch)
 }

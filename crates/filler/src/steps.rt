@@ -1,10 +1,10 @@
 // One operation of each memory: its advice is found and its row written, and the scratch words come
 // to hold the memory after it.
 //
-// No content stands in the scratch words. Of a ram, a stack and a queue the words of the w cells
-// (words::cells) lie from 0 on, and of a ram and a stack the lookups of each age from w on, of age
-// 1 first. Of a rom and a set the words of the keys (words::counts) lie from 0 on: the addresses,
-// and the elements, whose words hold the search tree too.
+// No content stands in the scratch words. Of a ram, a stack and a queue the words of the cells
+// (words::cells) lie from 0 on, as many as the width, and of a ram and a stack the lookups of each
+// age from the width on, of age 1 first. Of a rom and a set the words of the keys (words::counts)
+// lie from 0 on: the addresses, and the elements, whose words hold the search tree too.
 ghost use Rattle.std.specs.Prelude.{cond, ◌≡◌, ◌+◌, ◌^◌, ◌<◌, eqb, length, get_or, set};
 ghost use Rattle.memory.specs.Rows.{limit};
 ghost use Rattle.words.specs.Cells.{packed};
@@ -68,21 +68,14 @@ fn chosen(guard: u64, taken: u64, kept: u64) -> u64
 // Operation k, an access at a clock. A store makes it the source of its cell; a load leaves the
 // source as it is.
 #[tactic(auto, unfolding(crate::specs::Steps::ram_told, memory::specs::Rows::limit))]
-fn ram(
-    trace: Trace,
-    w: usize,
-    k: usize,
-    at: Cursor,
-    row: Input,
-    scratch: &mut [u64],
-) -> (Advice, Cursor)
-    requires { Timely w k at row.addr scratch.old }
-    ensures { Advised (ram_told w k at row.guard row.addr trace.entry.inits.now trace.entry.ops.now scratch.old) result.0 result.1 scratch.new }
+fn ram(trace: Trace, k: usize, at: Cursor, row: Input, scratch: &mut [u64]) -> (Advice, Cursor)
+    requires { Timely trace.width k at row.addr scratch.old }
+    ensures { Advised (ram_told trace.entry.width k at row.guard row.addr trace.entry.inits.now trace.entry.ops.now scratch.old) result.0 result.1 scratch.new }
 {
     let addr = row.addr as usize;
     let word = scratch[addr];
     let cell = Cell::from(word);
-    let version = looked(w + (at.clock - cell.time - 1) as usize, scratch);
+    let version = looked(trace.width + (at.clock - cell.time - 1) as usize, scratch);
     let source = chosen(row.guard, k as u64 + 1, cell.source);
     let written = Cell {
         source,
@@ -116,15 +109,15 @@ fn rom(at: Cursor, addr: u64, inits: &[u64], scratch: &mut [u64]) -> (Advice, Cu
 
 // A member: "equal set elements give all lookups to the first".
 #[tactic(auto, unfolding(crate::specs::Steps::set_told), using(crate::proofs::Members::tree_key))]
-fn member(w: usize, at: Cursor, value: u64, inits: &[u64], scratch: &mut [u64]) -> (Advice, Cursor)
-    requires { SetReady w value inits.now scratch.old }
-    ensures { Advised (set_told at value inits.now scratch.old) result.0 result.1 scratch.new }
+fn member(trace: Trace, at: Cursor, value: u64, scratch: &mut [u64]) -> (Advice, Cursor)
+    requires { SetReady trace.width value trace.inits.now scratch.old }
+    ensures { Advised (set_told at value trace.entry.inits.now scratch.old) result.0 result.1 scratch.new }
 {
     let tree = Tree {
-        inits,
-        links: &scratch[..w],
+        inits: trace.inits,
+        links: &scratch[..trace.width],
     };
-    let key = tree.find(value).unwrap_or(w);
+    let key = tree.find(value).unwrap_or(trace.width);
     let version = key_looked(key, scratch);
     let advice = Advice {
         version,
@@ -166,23 +159,23 @@ fn push(k: usize, at: Cursor, guard: u64, scratch: &mut [u64]) -> (Advice, Curso
 
 // A pop, executed or skipped: "A skipped pop gets old 0 and time clock − 1", and so looks up age 1.
 #[tactic(auto, unfolding(crate::specs::Steps::pop_told, crate::specs::Steps::popped))]
-fn pop(trace: Trace, w: usize, at: Cursor, guard: u64, scratch: &mut [u64]) -> (Advice, Cursor)
-    requires { PopReady w at guard scratch.old }
-    ensures { Advised (pop_told w at guard trace.entry.inits.now trace.entry.ops.now scratch.old) result.0 result.1 scratch.new }
+fn pop(trace: Trace, at: Cursor, guard: u64, scratch: &mut [u64]) -> (Advice, Cursor)
+    requires { PopReady trace.width at guard scratch.old }
+    ensures { Advised (pop_told trace.entry.width at guard trace.entry.inits.now trace.entry.ops.now scratch.old) result.0 result.1 scratch.new }
 {
     let clock = at.clock;
     if guard != 1 {
         let advice = Advice {
             old: 0,
             time: clock - 1,
-            version: looked(w, scratch),
+            version: looked(trace.width, scratch),
         };
         return (advice, at);
     }
     let top = at.tail - 1;
     let word = scratch[top];
     let time = Cell::from(word).time;
-    let version = looked(w + (clock - time - 1) as usize, scratch);
+    let version = looked(trace.width + (clock - time - 1) as usize, scratch);
     let advice = Advice {
         old: cells::content(top, word, trace.inits, trace.ops),
         time,
@@ -204,7 +197,8 @@ fn enqueue(k: usize, at: Cursor, guard: u64, scratch: &mut [u64]) -> (Advice, Cu
     (Advice::default(), next)
 }
 
-// A dequeue, executed or skipped: "a skipped dequeue old 0".
+// A dequeue, executed or skipped: "a skipped dequeue old 0". It reads the word at the head, and
+// looks nothing up: but for two lines it has nothing in common with a pop.
 #[tactic(auto, unfolding(crate::specs::Steps::dequeue_told, crate::specs::Steps::dequeued))]
 fn dequeue(trace: Trace, at: Cursor, guard: u64, scratch: &[u64]) -> (Advice, Cursor)
     requires { DequeueReady at guard scratch.now }
@@ -223,21 +217,14 @@ fn dequeue(trace: Trace, at: Cursor, guard: u64, scratch: &[u64]) -> (Advice, Cu
 
 // Operation k, a push or a pop.
 #[tactic(auto, unfolding(crate::specs::Steps::stack_told, memory::specs::Names::op_code))]
-fn stack(
-    trace: Trace,
-    w: usize,
-    k: usize,
-    at: Cursor,
-    row: Input,
-    scratch: &mut [u64],
-) -> (Advice, Cursor)
-    requires { StackReady w k at row.op row.guard scratch.old }
-    ensures { Advised (stack_told w k at row.op row.guard trace.entry.inits.now trace.entry.ops.now scratch.old) result.0 result.1 scratch.new }
+fn stack(trace: Trace, k: usize, at: Cursor, row: Input, scratch: &mut [u64]) -> (Advice, Cursor)
+    requires { StackReady trace.width k at row.op row.guard scratch.old }
+    ensures { Advised (stack_told trace.entry.width k at row.op row.guard trace.entry.inits.now trace.entry.ops.now scratch.old) result.0 result.1 scratch.new }
 {
     if row.op == u64::from(Op::Push) {
         return push(k, at, row.guard, scratch);
     }
-    pop(trace, w, at, row.guard, scratch)
+    pop(trace, at, row.guard, scratch)
 }
 
 // Operation k, an enqueue or a dequeue.
@@ -252,44 +239,36 @@ fn queue(trace: Trace, k: usize, at: Cursor, row: Input, scratch: &mut [u64]) ->
     dequeue(trace, at, row.guard, scratch)
 }
 
-// The advice of operation k of a memory of w cells, and the cursor after it.
+// The advice of operation k, and the cursor after it.
 #[tactic(auto, unfolding(crate::specs::Steps::told_by))]
-fn advise(
-    trace: Trace,
-    w: usize,
-    k: usize,
-    at: Cursor,
-    row: Input,
-    scratch: &mut [u64],
-) -> (Advice, Cursor)
-    requires { ReadyBy trace.memory w k at row.op row.guard row.addr row.value trace.inits.now scratch.old }
-    ensures { Advised (told_by trace.entry.memory w k at row.op row.guard row.addr row.value trace.entry.inits.now trace.entry.ops.now scratch.old) result.0 result.1 scratch.new }
+fn advise(trace: Trace, k: usize, at: Cursor, row: Input, scratch: &mut [u64]) -> (Advice, Cursor)
+    requires { ReadyBy trace.memory trace.width k at row.op row.guard row.addr row.value trace.inits.now scratch.old }
+    ensures { Advised (told_by trace.entry.memory trace.entry.width k at row.op row.guard row.addr row.value trace.entry.inits.now trace.entry.ops.now scratch.old) result.0 result.1 scratch.new }
 {
     match trace.memory {
-        Memory::Ram => ram(trace, w, k, at, row, scratch),
+        Memory::Ram => ram(trace, k, at, row, scratch),
         Memory::Rom => rom(at, row.addr, trace.inits, scratch),
-        Memory::Set => member(w, at, row.value, trace.inits, scratch),
-        Memory::Stack => stack(trace, w, k, at, row, scratch),
+        Memory::Set => member(trace, at, row.value, scratch),
+        Memory::Stack => stack(trace, k, at, row, scratch),
         Memory::Queue => queue(trace, k, at, row, scratch),
     }
 }
 
-// Operation k of a memory of w cells.
+// Operation k.
 #[tactic(auto, using(crate::proofs::Advised::ready_read, crate::proofs::Advised::told_turned))]
 pub(crate) fn step(
     trace: Trace,
-    w: usize,
     k: usize,
     at: Cursor,
     out: &mut [u64],
     scratch: &mut [u64],
 ) -> Cursor
-    requires { Ready trace.memory w k at trace.inits.now trace.ops.now scratch.old }
-    ensures turned { Turned k (turn trace.entry.memory w k at trace.entry.inits.now trace.entry.ops.now scratch.old) out.old out.new scratch.new }
+    requires { Ready trace.memory trace.width k at trace.inits.now trace.ops.now scratch.old }
+    ensures turned { Turned k (turn trace.entry.memory trace.entry.width k at trace.entry.inits.now trace.entry.ops.now scratch.old) out.old out.new scratch.new }
     ensures next { result ≡ advanced trace.entry.memory k at trace.entry.ops.now }
 {
     let row = words::read(trace.ops, k);
-    let (advice, next) = advise(trace, w, k, at, row, scratch);
+    let (advice, next) = advise(trace, k, at, row, scratch);
     words::put(k, row, advice, out);
     next
 }

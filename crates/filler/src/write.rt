@@ -36,14 +36,13 @@ fn operations(trace: Trace, out: &mut [u64], scratch: &mut [u64]) -> Cursor
     requires prepared { Prepared trace.memory trace.n trace.inits.now scratch.old }
     ensures { Ended trace.entry.memory trace.entry.n trace.entry.t trace.entry.inits.now trace.entry.ops.now out.old out.new scratch.new result }
 {
-    let w = trace.width();
     let mut at = Cursor {
         clock: 1,
         head: 0,
         tail: 0,
     };
     for k in 0..trace.t {
-        at = steps::step(trace, w, k, at, out, scratch);
+        at = steps::step(trace, k, at, out, scratch);
     }
     at
 }
@@ -59,6 +58,5 @@ pub(crate) fn rows_after(trace: Trace, out: &mut [u64], scratch: &mut [u64]) -> 
 {
     let at = operations(trace, out, scratch);
     let from = 7 * trace.t;
-    let w = trace.width();
-    trace.t + ends::finish(trace, w, at, scratch, &mut out[from..])
+    trace.t + ends::finish(trace, at, scratch, &mut out[from..])
 }

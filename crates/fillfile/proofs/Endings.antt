@@ -20,7 +20,7 @@ use Rattle.std.proofs.lemmas.List.{take_min}
 use Rattle.faults.specs.declared.Refused.{Refused}
 use Rattle.filler.specs.Answer.{filled_of, numbered_fill, Fills}
 use Rattle.filler.proofs.Whole.{fills_same}
-use Rattle.fillfile.specs.declared.Progress.{Progress}
+use Rattle.pieces.specs.declared.Progress.{Progress}
 use Rattle.fillfile.specs.Progress.{left_by}
 use Rattle.fillfile.specs.Ending.{answer_text, Ending, ended_by, refused_with, ending_of, Ended, end_of, Finished}
 use Rattle.fillfile.proofs.Texts.{Putting, put_text}
@@ -72,14 +72,14 @@ module _ (q : ℕ) (i : Intake) (ws out scratch text : List ℕ) {x : Intake} (e
       (put_text text 0 same put)
 
 -- the end of input, with the kept bytes at the front of the buffer
-pub finished : (q : ℕ) (was : Progress) (buffer words : List ℕ) (count : ℕ) → count ≡ min was.kept (length buffer) → (i : Intake) (stored : List ℕ)
-    → gathered i stored ≡ last_in (line_taken q) (gathered was.intake words) (take count buffer) → (out filled scratch cleared text printed : List ℕ) (r : Option ℕ)
+pub finished : (q : ℕ) (was : Progress Intake) (buffer words : List ℕ) (count : ℕ) → count ≡ min was.kept (length buffer) → (i : Intake) (stored : List ℕ)
+    → gathered i stored ≡ last_in (line_taken q) (gathered was.known words) (take count buffer) → (out filled scratch cleared text printed : List ℕ) (r : Option ℕ)
     → Ended q (gathered i stored) out filled scratch cleared text printed r → Finished q (left_by was words buffer) stored out filled scratch cleared text printed r
 unfolding end_of end_in stands_for left_by piece gathered
 finished q was buffer words count counts i stored last out filled scratch cleared text printed r ended =
     let front : take count buffer ≡ take was.kept buffer = ap (λ (n : ℕ). take n buffer) counts ∙ take_min was.kept buffer in
     let whole : gathered i stored ≡ end_of q (left_by was words buffer) =
-    last ∙ ap (last_in (line_taken q) (gathered was.intake words)) front in
+    last ∙ ap (last_in (line_taken q) (gathered was.known words)) front in
     record {
       rows = ap (λ (g : Gathered). g.words) whole;
       ended = rw whole at ended;

@@ -42,8 +42,8 @@ use Rattle.text.proofs.Written.{put_at_start, written_at_start}
 use Rattle.filler.specs.Answer.{filled_of}
 use Rattle.print.proofs.Rows.{row_in_numbers}
 use Rattle.fillfile.specs.Ending.{output_rows, answer_text, ended_by, refused_with, ending_of, Ended, end_of}
-use Rattle.fillfile.specs.declared.Progress.{Progress}
-use Rattle.intake.specs.declared.Taken.{Taken}
+use Rattle.pieces.specs.declared.Progress.{Progress}
+use Rattle.pieces.specs.declared.Taken.{Taken}
 use Rattle.fillfile.specs.Progress.{begun, left_by}
 use Rattle.fillfile.specs.Statements.{PiecesAreText}
 use Rattle.fillfile.proofs.Texts.{Putting, put_text}
@@ -171,13 +171,13 @@ module _ (q : ℕ) (out scratch : List ℕ) (wide : 4480 ≤ length out) (deep :
 
   -- a whole input at once: its whole lines, and its last line if that is not ended
   pub whole_input :
-      (input words : List ℕ) → 1024 ≤ length words → (k : Modulus) (was : Progress) → was ≡ begun k → (stored : List ℕ) (taken : Taken) → LinesTaken (line_taken q) (gathered was.intake words) input (gathered taken.intake stored) taken.used
-      → (i : Intake) (ws : List ℕ) → gathered i ws ≡ last_in (line_taken q) (gathered taken.intake stored) (take (length input - taken.used) (drop taken.used input))
+      (input words : List ℕ) → 1024 ≤ length words → (k : Modulus) (was : Progress Intake) → was ≡ begun k → (stored : List ℕ) (taken : Taken Intake) → LinesTaken (line_taken q) (gathered was.known words) input (gathered taken.known stored) taken.used
+      → (i : Intake) (ws : List ℕ) → gathered i ws ≡ last_in (line_taken q) (gathered taken.known stored) (take (length input - taken.used) (drop taken.used input))
       → (filled cleared text printed : List ℕ) (r : Option ℕ) → Ended q (gathered i ws) out filled scratch cleared text printed r
       → Putting text 0 (fill_text q input) r printed
   unfolding begun unfilled end_in piece
   whole_input input words many k was e stored taken lines i ws last filled cleared text printed r ended =
-      let s : Gathered = gathered taken.intake stored in
+      let s : Gathered = gathered taken.known stored in
       let rest = drop taken.used input in
       let all : length rest ≤ length input - taken.used = omega (arith, length-drop taken.used input) in
       let begins : LinesTaken (line_taken q) (gathered untaken words) input s taken.used = rw e at lines in

@@ -5,6 +5,7 @@
 #![tactic(auto)]
 
 use field::moduli::Modulus;
+use pieces::Progress;
 use runs::Intake;
 
 mod ending;
@@ -32,25 +33,15 @@ pub const SCRATCH: usize = 2 * LIMIT + 3 * LIMIT;
 // and the most bytes that it prints (runs `FillTextShort`).
 pub const TEXT: usize = 85797;
 
-// Between two pieces of the input: the modulus that it is filled for, what its lines left, and how
-// many bytes of the line that is being read stand at the front of the caller's buffer. The caller
-// puts the bytes that follow behind them: the buffer is lent, and memory is constant.
-#[derive(Clone, Copy)]
-pub struct Progress {
-    pub field: Modulus,
-    pub intake: Intake,
-    pub kept: usize,
-}
-
 // Before the first byte.
 #[tactic(auto, unfolding(crate::specs::Progress::begun, runs::specs::FillStream::untaken))]
-pub fn start(field: Modulus) -> Progress
+pub fn start(field: Modulus) -> Progress<Intake>
     ensures progress { result ≡ begun field }
     ensures field { result.field ≡ field }
 {
     Progress {
         field,
-        intake: Intake {
+        known: Intake {
             place: 1,
             memory: memory::Memory::Ram,
             size: 0,
@@ -67,19 +58,22 @@ pub fn start(field: Modulus) -> Progress
 // the unfinished line after them is moved to the front, as far as it is kept. The bytes of the
 // buffer behind it are as they were. A part that would end past the buffer ends with it. The rows
 // go into the words.
-pub fn advance(progress: Progress, buf: &mut [u8], filled: usize, words: &mut [u64]) -> Progress
-    ensures lines { Advanced (line_taken (modulus_of progress.field)) (gathered progress.intake words.old) filled buf.old (left_by result words.new buf.new) }
+pub fn advance(
+    progress: Progress<Intake>,
+    buf: &mut [u8],
+    filled: usize,
+    words: &mut [u64],
+) -> Progress<Intake>
+    ensures lines { Advanced (line_taken (modulus_of progress.field)) (gathered progress.known words.old) filled buf.old (left_by result words.new buf.new) }
     ensures field { result.field ≡ progress.field }
 {
     let field = progress.field;
     let end = filled.min(buf.len());
-    let taken = intake::lines_in(field, progress.intake, &buf[..end], words);
-    let used = taken.used;
-    let intake = taken.intake;
-    let kept = pieces::keep(buf, used, end);
+    let taken = intake::lines_in(field, progress.known, &buf[..end], words);
+    let kept = pieces::keep(buf, taken.used, end);
     Progress {
         field,
-        intake,
+        known: taken.known,
         kept,
     }
 }
@@ -89,7 +83,7 @@ pub fn advance(progress: Progress, buf: &mut [u8], filled: usize, words: &mut [u
 // library's 7, 14 or 15 on line 3, for too few words, too little output or too little scratch; and
 // its 4, for a size or count that no value line has.
 pub fn finish(
-    progress: Progress,
+    progress: Progress<Intake>,
     buf: &[u8],
     words: &mut [u64],
     out: &mut [u64],
@@ -100,7 +94,7 @@ pub fn finish(
 {
     let field = progress.field;
     let end = progress.kept.min(buf.len());
-    let intake = intake::last(field, progress.intake, &buf[..end], words);
+    let intake = intake::last(field, progress.known, &buf[..end], words);
     ending::finish(field, intake, &words[..], out, scratch, text)
 }
 
@@ -113,9 +107,9 @@ pub fn fill_file(field: Modulus, input: &[u8], text: &mut [u8]) -> Option<usize>
     let mut out = [0u64; OUTPUT];
     let mut scratch = [0u64; SCRATCH];
     let begun = start(field);
-    let taken = intake::lines_in(field, begun.intake, input, &mut words);
+    let taken = intake::lines_in(field, begun.known, input, &mut words);
     let used = taken.used;
-    let intake = intake::last(field, taken.intake, &input[used..], &mut words);
+    let intake = intake::last(field, taken.known, &input[used..], &mut words);
     ending::finish(field, intake, &words, &mut out, &mut scratch, text)
 }
 

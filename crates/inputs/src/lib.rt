@@ -1,4 +1,5 @@
-// An input row of the filler by its form: 3, 5 and 6 of the numbers, which are tested before 11 to 13.
+// An input row of the filler by its form: 3, 5 and 6 of the numbers, which are tested before 11 to
+// 13.
 #![tactic(auto)]
 
 ghost use Rattle.std.specs.Prelude.{◌≡◌};

@@ -6,6 +6,7 @@ use field::moduli::Modulus;
 use fields::written::Written;
 use memory::HEAD_LINES;
 use memory::faults::Fault;
+use pieces::Taken;
 use rules::counters;
 use runs::Intake;
 
@@ -35,31 +36,31 @@ pub fn line_of(place: usize) -> u32
     counters::raise(HEAD_LINES, place as u64)
 }
 
-// Between two lines of a block, of which some bytes are used.
-#[derive(Clone, Copy)]
-pub struct Taken {
-    pub intake: Intake,
-    pub used: usize,
-}
-
 // Every whole line of a block, each as a part of the block: from one line feed to the next, so that
 // nothing is counted. The loop stands in crates stream and intake: as one loop over a trait it
 // proves, but `check` then executes 6 % more instructions.
-pub fn lines_in(field: Modulus, mut intake: Intake, block: &[u8], words: &mut [u64]) -> Taken
-    ensures { LinesTaken (line_taken (modulus_of field)) (gathered intake words.old) block.now (gathered result.intake words.new) result.used }
+#[tactic(auto, using(pieces::proofs::Feeds::feed_some))]
+pub fn lines_in(
+    field: Modulus,
+    mut intake: Intake,
+    block: &[u8],
+    words: &mut [u64],
+) -> Taken<Intake>
+    ensures { LinesTaken (line_taken (modulus_of field)) (gathered intake words.old) block.now (gathered result.known words.new) result.used }
 {
     let mut used = 0;
-    let mut at = pieces::feed_from(block, used);
-    while at < block.len() {
+    while let Some(at) = pieces::feed_from(block, used) {
         let written = Written {
             text: &block[used..at],
             ended: true,
         };
         intake = line::line(field, intake, &written, words);
         used = at + 1;
-        at = pieces::feed_from(block, used);
     }
-    Taken { intake, used }
+    Taken {
+        known: intake,
+        used,
+    }
 }
 
 // The last line: one without its line feed is a line all the same.
@@ -67,7 +68,7 @@ pub fn lines_in(field: Modulus, mut intake: Intake, block: &[u8], words: &mut [u
 pub fn last(field: Modulus, intake: Intake, rest: &[u8], words: &mut [u64]) -> Intake
     ensures { gathered result words.new ≡ last_in (line_taken (modulus_of field)) (gathered intake words.old) rest.now }
 {
-    if rest.len() == 0 {
+    if rest.is_empty() {
         return intake;
     }
     let written = Written {
@@ -77,7 +78,8 @@ pub fn last(field: Modulus, intake: Intake, rest: &[u8], words: &mut [u64]) -> I
     line::line(field, intake, &written, words)
 }
 
-// Where the lines end: 1 for an empty input, 7 for a missing line 2 or 3 and for a missing row.
+// Where the lines end: 1 for an empty input, 7 for a missing line 2 or 3 and for a missing row. An
+// intake has any number for its place.
 #[tactic(auto, unfolding(runs::specs::FillStream::end_taken, runs::specs::FillStream::end_fault))]
 pub fn ended(intake: Intake) -> Intake
     ensures { result ≡ end_taken intake }

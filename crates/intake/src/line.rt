@@ -16,8 +16,9 @@ use memory::faults::{Fault, number};
 use memory::{FIRST_LINE, Phase};
 use rules::counters;
 use runs::{Given, Intake};
+use words::Input;
 
-// A fault on a line.
+// A fault on a line, by its number, as in an intake.
 #[tactic(auto, unfolding(runs::specs::FillStream::refuse_on))]
 pub fn refuse(intake: Intake, answer: u32, line: u32) -> Intake
     ensures { result ≡ refuse_on intake answer line }
@@ -92,11 +93,7 @@ fn fault(field: Modulus, intake: Intake, row: Given) -> Result<(), Fault>
 fn store_row(words: &mut [u64], k: u32, row: Given)
     ensures { words.new ≡ stored_at words.old k (given_input row) }
 {
-    let at = 4 * (k as usize);
-    words::store(words, at, u64::from(row.op));
-    words::store(words, at + 1, row.guard);
-    words::store(words, at + 2, row.addr);
-    words::store(words, at + 3, row.value);
+    words::write(k as usize, Input::from(row), words);
 }
 
 // A row that is due: it is stored, or its fault is the refusal.

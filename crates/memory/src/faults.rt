@@ -5,37 +5,37 @@ ghost use Rattle.memory.specs.Faults.{fault_number, fault_of};
 #[derive(Clone, Copy)]
 pub enum Fault {
     // "line 1 or 3, without its line feed, is not the names line; or the file is empty"
-    NotNames,
+    NotNames = 1,
     // "wrong number of fields, a number empty, over 10 digits, with a leading zero (0 itself is
     // fine) or not digits, line too long or without line feed"
-    Unreadable,
+    Unreadable = 2,
     // "a number is p or more"
-    TooLarge,
+    TooLarge = 3,
     // "unknown memory, size or count not allowed"
-    NotAllowed,
+    NotAllowed = 4,
     // "the op is not one due here"
-    NotDue,
+    NotDue = 5,
     // "guard above 1, or an unused column not 0"
-    NotFormed,
+    NotFormed = 6,
     // "file ends early, or a line follows the last due row"; of the filler's library "rows not size
     // + count"
-    NotComplete,
+    NotComplete = 7,
     // "the queue's depth product is 0, or the stack's depth is below 0"
-    BelowEmpty,
+    BelowEmpty = 8,
     // "range does not balance"
-    RangeDiffers,
+    RangeDiffers = 9,
     // "memory shuffle or hashes differ"
-    ShuffleDiffers,
+    ShuffleDiffers = 10,
     // "addr ≥ size"
-    Outside,
+    Outside = 11,
     // "executed pop or dequeue on empty"
-    Empty,
+    Empty = 12,
     // "value not in the set"
-    NotMember,
+    NotMember = 13,
     // "output too short"
-    OutputShort,
+    OutputShort = 14,
     // "scratch too short"
-    ScratchShort,
+    ScratchShort = 15,
 }
 
 // The number of a fault.
@@ -43,23 +43,7 @@ impl From<Fault> for u32 {
     ghost from_gives = { λ fault number. number ≡ fault_number fault };
 
     fn from(fault: Fault) -> u32 {
-        match fault {
-            Fault::NotNames => 1,
-            Fault::Unreadable => 2,
-            Fault::TooLarge => 3,
-            Fault::NotAllowed => 4,
-            Fault::NotDue => 5,
-            Fault::NotFormed => 6,
-            Fault::NotComplete => 7,
-            Fault::BelowEmpty => 8,
-            Fault::RangeDiffers => 9,
-            Fault::ShuffleDiffers => 10,
-            Fault::Outside => 11,
-            Fault::Empty => 12,
-            Fault::NotMember => 13,
-            Fault::OutputShort => 14,
-            Fault::ScratchShort => 15,
-        }
+        fault as u32
     }
 }
 

@@ -2,6 +2,8 @@
 // Definitions and statements are in specs/, proofs in proofs/.
 #![tactic(auto)]
 
+ghost use Rattle.std.specs.Prelude.{◌≡◌, [], ◌∷◌};
+
 use field::moduli::Modulus;
 
 pub mod codes;
@@ -16,30 +18,31 @@ pub const FIRST_LINE: u32 = HEAD_LINES + 1;
 // "The memory is `ram`, `rom`, `set`, `stack` or `queue`."
 #[derive(Clone, Copy)]
 pub enum Memory {
-    Ram,
-    Rom,
-    Set,
-    Stack,
-    Queue,
+    Ram = 0,
+    Rom = 1,
+    Set = 2,
+    Stack = 3,
+    Queue = 4,
 }
 
 // The op of a row; `Other` is any name that document 01 does not have.
 #[derive(Clone, Copy, PartialEq, Eq)]
 pub enum Op {
-    Init,
-    Access,
-    Look,
-    Member,
-    Push,
-    Pop,
-    Enqueue,
-    Dequeue,
-    End,
-    Range,
-    Other,
+    Init = 0,
+    Access = 1,
+    Look = 2,
+    Member = 3,
+    Push = 4,
+    Pop = 5,
+    Enqueue = 6,
+    Dequeue = 7,
+    End = 8,
+    Range = 9,
+    Other = 10,
 }
 
-// Where a row stands: among the init rows, the operations, the end rows or the range rows, or past the last due row.
+// Where a row stands: among the init rows, the operations, the end rows or the range rows, or past
+// the last due row.
 #[derive(Clone, Copy)]
 pub enum Phase {
     Starting,
@@ -61,8 +64,24 @@ pub struct Row {
     pub version: u64,
 }
 
+impl Row {
+    // The numbers of a row, in the order of its columns.
+    pub fn numbers(self) -> [u64; 6]
+        ensures { result ≡ self.guard ∷ self.addr ∷ self.value ∷ self.old ∷ self.time ∷ self.version ∷ [] }
+    {
+        [
+            self.guard,
+            self.addr,
+            self.value,
+            self.old,
+            self.time,
+            self.version,
+        ]
+    }
+}
+
 // "A challenge is four elements r, a, b, c."
-#[derive(Clone, Copy)]
+#[derive(Clone, Copy, Default)]
 pub struct Challenge {
     pub r: u64,
     pub a: u64,
@@ -127,7 +146,8 @@ pub struct Lent {
     pub state: State,
 }
 
-// What a check prints: answer, line, inputs, multiplications.
+// What a check prints: answer, line, inputs, multiplications. The answer is that of a state, which
+// may be any number.
 #[derive(Clone, Copy)]
 pub struct Report {
     pub answer: u64,

@@ -1,5 +1,6 @@
-// The names lines of document 01, without their line feeds: fixed byte strings, "compared byte for byte" by the readers and written by the filler and the
-// report. Their definitions are in specs/Names.antt.
+// The names lines of document 01, without their line feeds: fixed byte strings, "compared byte for
+// byte" by the readers and written by the filler and the report. Their definitions are in
+// specs/Names.antt.
 
 // Lines 1 and 3 of the file that is checked; the filler writes line 3.
 pub const VALUE_NAMES: [u8; 25] = *b"memory,size,count,r,a,b,c";

@@ -1,4 +1,5 @@
-// What a row that has passed changes of the context: counters, the queue's product of depths, gates; and the fault of a row.
+// What a row that has passed changes of the context: counters, the queue's product of depths,
+// gates; and the fault of a row.
 #![tactic(auto)]
 
 ghost use Rattle.std.specs.Prelude.{◌≡◌, ◌&&◌, ◌+◌, eqb, leb, IfOk};

@@ -9,12 +9,14 @@ use mathlib.Core.List.{List, [], ◌∷◌, ◌++◌, append_assoc, append-nil}
 use lib.Dec.{eqb}
 use lib.ListN.{length, take, drop, length-drop, take-append-drop}
 use lib.Seq.{take-add}
+use Rattle.std.specs.Prelude.{None, Some}
 use Rattle.std.specs.List.{position_or_len}
+use Rattle.std.proofs.lemmas.Grind.{common_steps}
 use Rattle.std.proofs.lemmas.List.Recursion.{is_position_or_len}
 use Rattle.memory.specs.Bytes.{Line, feed, longest}
 use Rattle.memory.specs.Pieces.{cut, Piece, piece, byte_in, bytes_in}
 use Rattle.memory.proofs.Pieces.{line_with, pieces_cut, byte_feeds, byte_kept}
-use Rattle.pieces.specs.Block.{until_feed}
+use Rattle.pieces.specs.Block.{until_feed, feed_at}
 
 -- the first line feed is the first byte that is one
 pub until_feed_is : (xs : List ℕ) → until_feed xs ≡ position_or_len (λ b. eqb b feed) xs
@@ -30,6 +32,24 @@ feed_within (x ∷ xs) = go (eqb x feed) (feed_within xs)
     go : (b : Bool) → until_feed xs ≤ length xs → cond b 0 (suc (until_feed xs)) ≤ suc (length xs)
     go true h = omega arith
     go false h = omega arith
+
+-- where it is found, and where there is none
+pub feed_found : (block : List ℕ) (from at : ℕ) → at ≡ from + until_feed (drop from block) → at < length block → Some at ≡ feed_at from block
+unfolding feed_at
+feed_found block from at e h = grind (arith, common_steps, length-drop from block, feed_within (drop from block))
+
+pub feed_none : (block : List ℕ) (from at : ℕ) → at ≡ from + until_feed (drop from block) → length block ≤ at → None ≡ feed_at from block
+unfolding feed_at
+feed_none block from at e h = grind (arith, common_steps, length-drop from block, feed_within (drop from block))
+
+-- and what it says to a caller
+pub feed_some : (block : List ℕ) (from at : ℕ) → Some at ≡ feed_at from block → (at ≡ from + until_feed (drop from block)) × (at < length block)
+unfolding feed_at
+feed_some block from at e = grind (arith, common_steps, length-drop from block)
+
+pub feed_over : (block : List ℕ) (from : ℕ) → None ≡ feed_at from block → until_feed (drop from block) ≡ length (drop from block)
+unfolding feed_at
+feed_over block from e = grind (arith, common_steps, length-drop from block, feed_within (drop from block))
 
 -- Where a line reads the same from what is kept of it
 module _ {S : Type 0} (line : S → Line → S)

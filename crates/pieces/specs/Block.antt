@@ -1,6 +1,6 @@
 -- A block of bytes: its first line feed, its whole lines, and what is kept of the line after them.
 -- Assumes nothing.
-use Rattle.std.specs.Prelude.{ℕ, suc, ◌≤◌, ◌≡◌, cond, List, [], ◌∷◌, ◌++◌, eqb, length, take, drop}
+use Rattle.std.specs.Prelude.{ℕ, suc, ◌+◌, ◌≤◌, ◌≡◌, cond, Option, None, Some, List, [], ◌∷◌, ◌++◌, eqb, ltb, length, take, drop}
 use Rattle.memory.specs.Bytes.{Line, feed}
 use Rattle.memory.specs.Pieces.{cut, piece, bytes_in}
 
@@ -8,6 +8,12 @@ use Rattle.memory.specs.Pieces.{cut, piece, bytes_in}
 unfoldable pub until_feed : List ℕ → ℕ
 until_feed [] = 0
 until_feed (b ∷ bs) = cond (eqb b feed) 0 (suc (until_feed bs))
+
+-- where the first line feed from a position on stands, if there is one
+unfoldable pub feed_at : ℕ → List ℕ → Option ℕ
+feed_at from block =
+    let rest = drop from block in
+    cond (ltb (until_feed rest) (length rest)) (Some (from + until_feed rest)) None
 
 -- what is kept of an unfinished line, the bytes from a position up to an end
 unfoldable pub rest_of : ℕ → ℕ → List ℕ → List ℕ

@@ -10,18 +10,18 @@ use Rattle.memory.specs.Text.{bytes}
 use Rattle.memory.specs.Bytes.{comma, feed}
 use Rattle.memory.specs.Names.{op_name, report_names}
 use Rattle.memory.specs.Print.{digits_onto, number_text, numbers_text, row_text, report_text}
-use Rattle.print.specs.Rows.{columns_text}
+use Rattle.print.specs.Rows.{column_text, columns_text}
 
 -- numbers with commas between are the first one, and a comma before each of the others
 numbers_columns : (x : ℕ) (ns : List ℕ) → number_text x ++ columns_text ns ≡ numbers_text x ns
-unfolding numbers_text columns_text
+unfolding numbers_text column_text columns_text
 numbers_columns x [] = refl
 numbers_columns x (y ∷ ys) = ap (λ (t : List ℕ). number_text x ++ comma ∷ t) (numbers_columns y ys)
 
 pub row_parts : (row : Row)
     → row_text row
     ≡ op_name row.op ++ columns_text (row.guard ∷ row.addr ∷ row.value ∷ row.old ∷ row.time ∷ row.version ∷ [])
-unfolding row_text columns_text
+unfolding row_text column_text columns_text
 row_parts row =
     ap (λ (t : List ℕ). op_name row.op ++ comma ∷ t)
     (sym (numbers_columns row.guard (row.addr ∷ row.value ∷ row.old ∷ row.time ∷ row.version ∷ [])))

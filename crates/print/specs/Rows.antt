@@ -6,10 +6,14 @@ use Rattle.memory.specs.Bytes.{comma, feed}
 use Rattle.memory.specs.Names.{op_coded}
 use Rattle.memory.specs.Print.{number_text}
 
+-- a number with a comma before it
+unfoldable pub column_text : ℕ → List ℕ
+column_text n = comma ∷ number_text n
+
 -- numbers with a comma before each, and a line feed
 unfoldable pub columns_text : List ℕ → List ℕ
 columns_text [] = feed ∷ []
-columns_text (n ∷ ns) = (comma ∷ number_text n) ++ columns_text ns
+columns_text (n ∷ ns) = column_text n ++ columns_text ns
 
 -- the number in a column of the row at place k of a slice of output rows, 7 numbers a row; a number
 -- that is not there counts as 0

@@ -6,44 +6,44 @@ ghost use Rattle.std.specs.Prelude.{◌≡◌, ◌<◌, [], ◌∷◌, ◌++◌,
 ghost use Rattle.memory.specs.Bytes.{feed};
 ghost use Rattle.memory.specs.Names.{op_name, row_names};
 ghost use Rattle.memory.specs.Print.{numbers_text, row_text, report_text, refusal_text};
-ghost use Rattle.text.specs.Put.{put_of, put_after, written, written_after};
-ghost use Rattle.print.specs.Rows.{columns_text, cell_in, row_in};
+ghost use Rattle.text.specs.Put.{put_of, written};
+ghost use Rattle.print.specs.Rows.{column_text, columns_text, cell_in, row_in};
 
 use memory::names::{REFUSAL_NAMES, REPORT_NAMES, ROW_NAMES};
 use memory::{Op, Report, Row};
-use text::{bytes, more, more_number};
+use text::{bytes, number};
 
-// Puts a line feed after what was put before.
-#[tactic(auto, unfolding(memory::specs::Bytes::feed))]
-fn end_line(buf: &mut [u8], prior: Option<usize>) -> Option<usize>
-    ensures answer { result ≡ put_after (length buf.old) prior (feed ∷ []) }
-    ensures slice { buf.new ≡ written_after buf.old prior (feed ∷ []) }
+// Puts a number, with a comma before it.
+#[tactic(auto, unfolding(memory::specs::Bytes::comma), using(text::proofs::Written::puts, crate::proofs::Numbers::column_parts))]
+fn column(buf: &mut [u8], at: usize, n: u64) -> Option<usize>
+    ensures answer { result ≡ put_of (length buf.old) at (column_text n) }
+    ensures slice { buf.new ≡ written buf.old at (column_text n) }
 {
-    more(buf, prior, b"\n")
+    let end = bytes(buf, at, b",")?;
+    number(buf, end, n)
 }
 
-// Puts numbers, a comma before each, and a line feed after what was put before.
-#[tactic(auto, unfolding(memory::specs::Bytes::comma), using(text::proofs::Written::puts, crate::proofs::Numbers::columns_from, crate::proofs::Numbers::columns_over))]
-fn columns(buf: &mut [u8], prior: Option<usize>, ns: &[u64]) -> Option<usize>
-    ensures answer { result ≡ put_after (length buf.old) prior (columns_text ns.now) }
-    ensures slice { buf.new ≡ written_after buf.old prior (columns_text ns.now) }
+// Puts numbers, a comma before each, and a line feed.
+#[tactic(auto, unfolding(memory::specs::Bytes::feed), using(text::proofs::Written::puts, crate::proofs::Numbers::columns_from, crate::proofs::Numbers::columns_over))]
+fn columns(buf: &mut [u8], at: usize, ns: &[u64]) -> Option<usize>
+    ensures answer { result ≡ put_of (length buf.old) at (columns_text ns.now) }
+    ensures slice { buf.new ≡ written buf.old at (columns_text ns.now) }
 {
-    let mut end = prior;
+    let mut end = at;
     for n in ns {
-        end = more(buf, end, b",");
-        end = more_number(buf, end, *n);
+        end = column(buf, end, *n)?;
     }
-    end_line(buf, end)
+    bytes(buf, end, b"\n")
 }
 
 // Puts bytes and a line feed.
-#[tactic(auto, using(text::proofs::Written::puts))]
+#[tactic(auto, unfolding(memory::specs::Bytes::feed), using(text::proofs::Written::puts))]
 fn line(buf: &mut [u8], at: usize, text: &[u8]) -> Option<usize>
     ensures answer { result ≡ put_of (length buf.old) at (text.now ++ feed ∷ []) }
     ensures slice { buf.new ≡ written buf.old at (text.now ++ feed ∷ []) }
 {
-    let end = bytes(buf, at, text);
-    end_line(buf, end)
+    let end = bytes(buf, at, text)?;
+    bytes(buf, end, b"\n")
 }
 
 // The name of an op, as the rows have it; the op that is none of document 01's has no name.
@@ -72,19 +72,8 @@ pub fn row(buf: &mut [u8], at: usize, row: Row) -> Option<usize>
     ensures answer { result ≡ put_of (length buf.old) at (row_text row) }
     ensures slice { buf.new ≡ written buf.old at (row_text row) }
 {
-    let end = bytes(buf, at, op_text(row.op));
-    columns(
-        buf,
-        end,
-        &[
-            row.guard,
-            row.addr,
-            row.value,
-            row.old,
-            row.time,
-            row.version,
-        ],
-    )
+    let end = bytes(buf, at, op_text(row.op))?;
+    columns(buf, end, &row.numbers())
 }
 
 // Puts the names line of the rows.
@@ -102,8 +91,8 @@ fn two_lines(buf: &mut [u8], at: usize, names: &[u8], first: u64, others: &[u64]
     ensures answer { result ≡ put_of (length buf.old) at (names.now ++ feed ∷ numbers_text first others.now) }
     ensures slice { buf.new ≡ written buf.old at (names.now ++ feed ∷ numbers_text first others.now) }
 {
-    let end = line(buf, at, names);
-    let end = more_number(buf, end, first);
+    let end = line(buf, at, names)?;
+    let end = number(buf, end, first)?;
     columns(buf, end, others)
 }
 
@@ -117,7 +106,8 @@ pub fn report(buf: &mut [u8], at: usize, report: Report) -> Option<usize>
     two_lines(buf, at, &REPORT_NAMES, report.answer, &others)
 }
 
-// Puts the two lines of the filler's refusal.
+// Puts the two lines of the filler's refusal. The answer is that of an intake, which may be any
+// number.
 #[tactic(auto, unfolding(memory::specs::Print::refusal_text, memory::specs::Names::refusal_names, memory::specs::Text::bytes))]
 pub fn refusal(buf: &mut [u8], at: usize, answer: u32, place: u32) -> Option<usize>
     ensures answer { result ≡ put_of (length buf.old) at (refusal_text answer place) }

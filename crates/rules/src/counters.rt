@@ -1,4 +1,5 @@
-// Counters of rows and gates, and the numbers of lines: at the largest number of their type they stay.
+// Counters of rows and gates, and the numbers of lines: at the largest number of their type they
+// stay.
 ghost use Rattle.std.specs.Prelude.{◌≡◌};
 ghost use Rattle.memory.specs.Step.{raise};
 

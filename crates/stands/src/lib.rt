@@ -14,7 +14,8 @@ use fields::written::Written;
 use memory::faults::{Fault, number};
 use memory::{Challenge, Context, FIRST_LINE, Memory, Stand, State, Values};
 
-// A state that has refused a line before the rows: a fresh one of size and count 0, with answer and line set.
+// A state that has refused a line before the rows: a fresh one of size and count 0, with answer and
+// line set, which are numbers in a state.
 #[tactic(auto, unfolding(memory::specs::Step::refused_state, memory::specs::Step::refuse_at, memory::specs::Step::fresh_context, memory::specs::Step::fresh_of))]
 pub fn refused(answer: u32, line: u32) -> State
     ensures { result ≡ refused_state answer line }
@@ -23,12 +24,7 @@ pub fn refused(answer: u32, line: u32) -> State
         memory: Memory::Ram,
         size: 0,
         count: 0,
-        challenge: Challenge {
-            r: 0,
-            a: 0,
-            b: 0,
-            c: 0,
-        },
+        challenge: Challenge::default(),
     };
     let fresh = checker::fresh(Modulus::M31, none);
     State {

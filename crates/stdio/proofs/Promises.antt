@@ -1,7 +1,12 @@
 -- Every statement of this crate is proved.
 -- Assumes nothing.
 use Rattle.stdio.specs.Promises.{Promises}
-use Rattle.stdio.proofs.Known.{known_read, known_write}
+use Rattle.stdio.proofs.Known.{read_answers, write_answers, known_read, known_write}
 
 pub promises : Promises
-promises = record { read = known_read; write = known_write }
+promises = record {
+  answers_read = read_answers;
+  answers_write = write_answers;
+  read = known_read;
+  write = known_write;
+}

@@ -1,6 +1,6 @@
 -- What a writer whose bytes are known has of a text, after writes one after the other.
 -- Assumes nothing.
-use Rattle.std.proofs.Common.{◌≡◌, ℕ, List, ◌++◌, Option, None, Some, Result, Ok, Err, take, sym, ◌∙◌, subst, append-nil}
+use Rattle.std.proofs.Common.{◌≡◌, ℕ, List, Option, None, Some, Result, Ok, Err, take, sym, ◌∙◌, subst, append-nil}
 use Rattle.std.specs.Io.KnownBytes.{Appends, Keeps}
 use Rattle.stdio.specs.declared.Failure.{Failure}
 use Rattle.stdio.specs.declared.Failure.TheVariants.{NoRoom, Read, Endless, Short, Write}

@@ -7,7 +7,8 @@ use crate::{Failure, read_behind};
 use std::io;
 
 // What takes an input in pieces and prints at its end. Its caller keeps one buffer, at whose front
-// stand the bytes of an unfinished line, which are kept, and puts the bytes that follow behind them.
+// stand the bytes of an unfinished line, which are kept, and puts the bytes that follow behind
+// them.
 pub trait Filter {
     // What is printed of an input.
     ghost printed: { List ℕ → List ℕ };
@@ -21,7 +22,8 @@ pub trait Filter {
     fn kept(&self) -> usize
         ensures { result ≡ kept self.now };
 
-    // Takes the bytes behind the kept ones, up to where the buffer is filled.
+    // Takes the bytes behind the kept ones, up to where the buffer is filled. (The whole buffer is
+    // handed on, and not its filled part: what is kept next is at its front.)
     fn advance(&mut self, buf: &mut [u8], filled: usize)
         ensures { (bytes : List ℕ) → has_taken self.old bytes (take (kept self.old) buf.old)
             → kept self.old ≤ filled

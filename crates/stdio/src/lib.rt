@@ -83,7 +83,8 @@ fn read_part<R: io::Read>(
     reader.read(&mut buf[from..end])
 }
 
-// Writes the first n bytes of a text, and nothing of a text that is shorter.
+// Writes the first n bytes of a text, and nothing of a text that is shorter: `KnownWrite` promises
+// that of such a text, so the length stands beside it.
 pub fn write_first<W: io::Write>(writer: &mut W, text: &[u8], n: usize) -> Result<(), Failure>
     ensures first { WriteFirst (length text.now) n result }
     ensures bytes { Takes n (W.contents writer.old) (W.contents writer.new) text.now result }

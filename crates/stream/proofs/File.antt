@@ -20,7 +20,7 @@ use Rattle.pieces.specs.Block.{LinesTaken}
 use Rattle.pieces.specs.Calls.{started, joined}
 use Rattle.pieces.proofs.Feeds.{block_read}
 use Rattle.pieces.proofs.Calls.{calls_read}
-use Rattle.stream.specs.declared.Progress.{Progress}
+use Rattle.pieces.specs.declared.Progress.{Progress}
 use Rattle.stream.specs.Progress.{begun, left_by}
 use Rattle.text.specs.Put.{put_of, written}
 use Rattle.text.proofs.Written.{put_at_start, written_at_start}
@@ -45,8 +45,8 @@ pieces_are_printed k buffer calls h text printed r room put slice =
     }
 
 -- at once: its whole lines, and its last line if that is not ended
-pub whole_file : (k : Modulus) (file : List ℕ) (start : Progress) → start ≡ begun k → (r : Stand) (used : ℕ)
-    → LinesTaken (line_of (modulus_of k)) start.stand file r used
+pub whole_file : (k : Modulus) (file : List ℕ) (start : Progress Stand) → start ≡ begun k → (r : Stand) (used : ℕ)
+    → LinesTaken (line_of (modulus_of k)) start.known file r used
     → finish_of (modulus_of k) (piece r (drop used file)) ≡ file_report (modulus_of k) file
 unfolding begun unread finish_of end_in piece
 whole_file k file start e r used t =

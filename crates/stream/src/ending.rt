@@ -10,7 +10,8 @@ use fields::written::Written;
 use memory::faults::Fault;
 use memory::{Report, Stand, State};
 
-// The state where the lines end: 1 for an empty file, 7 for a missing line 2 or 3.
+// The state where the lines end: 1 for an empty file, 7 for a missing line 2 or 3. A stand has any
+// number for its place.
 #[tactic(auto, unfolding(memory::specs::Stream::end_report), using(memory::proofs::Stream::refused_report))]
 fn ended(stand: Stand) -> State
     ensures { report_of result ≡ end_report stand }
@@ -26,7 +27,8 @@ fn ended(stand: Stand) -> State
     }
 }
 
-// What is printed where the input ends after some bytes of a line: a line without its line feed is a line all the same.
+// What is printed where the input ends after some bytes of a line: a line without its line feed is
+// a line all the same.
 #[tactic(auto, using(crate::proofs::Places::finish_none, crate::proofs::Places::finish_line))]
 pub fn report(k: Modulus, stand: Stand, rest: &[u8]) -> Report
     ensures { result ≡ finish_of (modulus_of k) (piece stand rest.now) }

@@ -12,15 +12,6 @@ put_of room at text = cond (leb (at + length text) room) (Some (at + length text
 unfoldable pub written : List ℕ → ℕ → List ℕ → List ℕ
 written buf at text = take at buf ++ take (length buf - at) text ++ drop (at + length text) buf
 
--- the same for a text after what was put before: nothing more is put where that did not fit
-unfoldable pub put_after : ℕ → Option ℕ → List ℕ → Option ℕ
-put_after room (Some at) text = put_of room at text
-put_after room None text = None
-
-unfoldable pub written_after : List ℕ → Option ℕ → List ℕ → List ℕ
-written_after buf (Some at) text = written buf at text
-written_after buf None text = buf
-
 -- a slice begins with a text, and the answer is the text's length
 pub record Printed (content printed : List ℕ) (r : Option ℕ) : Type 0 where
   pub answer : r ≡ Some (length content)

@@ -1,11 +1,12 @@
 // Bytes and numbers put into a lent slice from a position on. Every function is total. The answer
 // is the position after what was put. Where a text runs past the slice's end there is none, and the
-// slice holds as much of the text as there is room for.
+// slice holds as much of the text as there is room for. Display has no such answer: std promises
+// nothing of a slice in which a text does not fit.
 #![tactic(auto)]
 
 ghost use Rattle.std.specs.Prelude.{◌≡◌, length};
 ghost use Rattle.memory.specs.Print.{number_text};
-ghost use Rattle.text.specs.Put.{put_of, put_after, written, written_after};
+ghost use Rattle.text.specs.Put.{put_of, written};
 
 use itoa::Buffer;
 
@@ -26,15 +27,6 @@ pub fn bytes(buf: &mut [u8], at: usize, text: &[u8]) -> Option<usize>
     Some(at + fitting)
 }
 
-// Puts bytes after what was put before.
-#[tactic(auto, unfolding(crate::specs::Put::put_after, crate::specs::Put::written_after))]
-pub fn more(buf: &mut [u8], prior: Option<usize>, text: &[u8]) -> Option<usize>
-    ensures answer { result ≡ put_after (length buf.old) prior text.now }
-    ensures slice { buf.new ≡ written_after buf.old prior text.now }
-{
-    bytes(buf, prior?, text)
-}
-
 // Puts a number in decimal, without leading zeros.
 #[tactic(auto, using(crate::proofs::Digits::number_decimal, crate::proofs::Written::puts))]
 pub fn number(buf: &mut [u8], at: usize, n: u64) -> Option<usize>
@@ -43,13 +35,4 @@ pub fn number(buf: &mut [u8], at: usize, n: u64) -> Option<usize>
 {
     let mut digits = Buffer::new();
     bytes(buf, at, digits.format(n).as_bytes())
-}
-
-// Puts a number after what was put before.
-#[tactic(auto, unfolding(crate::specs::Put::put_after, crate::specs::Put::written_after))]
-pub fn more_number(buf: &mut [u8], prior: Option<usize>, n: u64) -> Option<usize>
-    ensures answer { result ≡ put_after (length buf.old) prior (number_text n) }
-    ensures slice { buf.new ≡ written_after buf.old prior (number_text n) }
-{
-    number(buf, prior?, n)
 }

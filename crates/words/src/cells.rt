@@ -1,5 +1,6 @@
 // A word of a cell: where its content comes from, and its time. No content stands in it: source 0
-// is the cell's init row, and source k + 1 is operation k.
+// is the cell's init row, and source k + 1 is operation k. The scratch words are lent numbers, and
+// their first value is 0: a source is a number too.
 ghost use Rattle.std.specs.Prelude.{◌≡◌};
 ghost use Rattle.words.specs.Cells.{packed, cell_in, content_in};
 

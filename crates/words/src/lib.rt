@@ -8,7 +8,11 @@ pub mod counts;
 
 ghost use Rattle.std.specs.Prelude.{◌≡◌, [], ◌∷◌, ◌*◌, ◌≤◌, length, get_or, set, replicate};
 ghost use Rattle.std.proofs.lemmas.List.Edits.{sets};
-ghost use Rattle.words.specs.Inputs.{words_at, value_at};
+ghost use Rattle.runs.specs.Given.{given_input};
+ghost use Rattle.words.specs.Inputs.{words_at, value_at, input_of, words_of};
+
+use memory::Op;
+use runs::Given;
 
 // Every word becomes 0.
 pub fn clear(words: &mut [u64])
@@ -52,6 +56,34 @@ pub struct Input {
     pub value: u64,
 }
 
+// The words of an input row.
+impl From<Given> for Input {
+    ghost from_gives = { λ given words. words ≡ words_of given };
+
+    fn from(given: Given) -> Input {
+        Input {
+            op: u64::from(given.op),
+            guard: given.guard,
+            addr: given.addr,
+            value: given.value,
+        }
+    }
+}
+
+// The input row that four words stand for.
+impl From<Input> for Given {
+    ghost from_gives = { λ words given. given_input given ≡ input_of words };
+
+    fn from(words: Input) -> Given {
+        Given {
+            op: Op::from(words.op),
+            guard: words.guard,
+            addr: words.addr,
+            value: words.value,
+        }
+    }
+}
+
 // The words of an output row that an input row does not have, in the columns `old,time,version`:
 // "All else in the rows is advice." A column that holds none is 0.
 #[derive(Clone, Copy, Default)]
@@ -61,8 +93,8 @@ pub struct Advice {
     pub version: u64,
 }
 
-// An input row that the slice ends in or before.
-fn cut_row(rows: &[u64], k: usize) -> Input
+// Reads input row k.
+pub fn read(rows: &[u64], k: usize) -> Input
     ensures { result ≡ words_at rows.now k }
 {
     let at = 4 * k.min(rows.len());
@@ -74,22 +106,6 @@ fn cut_row(rows: &[u64], k: usize) -> Input
     }
 }
 
-// Reads input row k. A whole row takes one test.
-pub fn read(rows: &[u64], k: usize) -> Input
-    ensures { result ≡ words_at rows.now k }
-{
-    if k < rows.len() / 4 {
-        let at = 4 * k;
-        return Input {
-            op: rows[at],
-            guard: rows[at + 1],
-            addr: rows[at + 2],
-            value: rows[at + 3],
-        };
-    }
-    cut_row(rows, k)
-}
-
 // The value of input row k.
 pub fn value(rows: &[u64], k: usize) -> u64
     ensures { result ≡ value_at rows.now k }
@@ -98,15 +114,26 @@ pub fn value(rows: &[u64], k: usize) -> u64
     row.value
 }
 
-// "Op, guard, addr and value are copied": the first four words of an output row, from a place on.
-fn put_input(at: usize, row: Input, out: &mut [u64])
-    requires { at ≤ 7 * length out.old }
-    ensures { out.new ≡ sets out.old at (row.op ∷ row.guard ∷ row.addr ∷ row.value ∷ []) }
+// Writes the four words of an input row, from a place on: those of its own row, or the first four
+// of an output row, as "op, guard, addr and value are copied".
+fn put_input(at: usize, row: Input, words: &mut [u64])
+    requires { at ≤ 7 * length words.old }
+    ensures { words.new ≡ sets words.old at (row.op ∷ row.guard ∷ row.addr ∷ row.value ∷ []) }
 {
-    store(out, at, row.op);
-    store(out, at + 1, row.guard);
-    store(out, at + 2, row.addr);
-    store(out, at + 3, row.value);
+    store(words, at, row.op);
+    store(words, at + 1, row.guard);
+    store(words, at + 2, row.addr);
+    store(words, at + 3, row.value);
+}
+
+// Writes input row k.
+pub fn write(k: usize, row: Input, words: &mut [u64])
+    ensures { words.new ≡ sets words.old (4 * k) (row.op ∷ row.guard ∷ row.addr ∷ row.value ∷ []) }
+{
+    if words.len() <= k {
+        return;
+    }
+    put_input(4 * k, row, words);
 }
 
 // The advice: the last three words of an output row, from a place on.

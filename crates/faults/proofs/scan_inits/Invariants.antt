@@ -11,4 +11,4 @@ use Rattle.faults.proofs.scan_inits.Given as goal
 
 abbrev pub invariant-loop-k : goal.invariant-loop-k
 invariant-loop-k l =
-    inits_scanned (modulus_of l.field) 1 (inputs_in l.inits) ≡ inits_scanned (modulus_of l.field) (l.k + 1) (drop l.k (inputs_in l.inits))
+    inits_scanned (modulus_of l.field) 1 (inputs_in l.inits) ≡ inits_scanned (modulus_of l.field) (l.k-counter + 1) (drop l.k-counter (inputs_in l.inits))

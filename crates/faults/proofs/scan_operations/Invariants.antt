@@ -12,4 +12,4 @@ use Rattle.faults.proofs.scan_operations.Given as goal
 
 abbrev pub invariant-loop-k : goal.invariant-loop-k
 invariant-loop-k l =
-    (l.level ≤ l.n + l.k) × (operations_scanned (modulus_of l.field) l.m l.tree.inits.now l.tree.links.now l.ops ≡ scanned (modulus_of l.field) l.m (in_tree (values_in l.tree.inits.now) l.tree.links.now) l.level (l.n + l.k + 1) (drop l.k (inputs_in l.ops)))
+    (l.level ≤ l.n + l.k-counter) × (operations_scanned (modulus_of l.field) l.m l.tree.inits.now l.tree.links.now l.ops ≡ scanned (modulus_of l.field) l.m (in_tree (values_in l.tree.inits.now) l.tree.links.now) l.level (l.n + l.k-counter + 1) (drop l.k-counter (inputs_in l.ops)))

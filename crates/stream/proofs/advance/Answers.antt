@@ -16,7 +16,7 @@ returns c =
     let a = c.args in
     let keep = c.keep-kept in
     let q = modulus_of a.progress.field in record {
-      lines = advanced (line_of q) (cut_line q) a.progress.stand a.filled a.buf.now end.result end.ensures taken.result.stand taken.result.used
+      lines = advanced (line_of q) (cut_line q) a.progress.known a.filled a.buf.now end.result end.ensures taken.result.known taken.result.used
           taken.ensures keep.result keep.ensures.count keep.new.buf keep.ensures.slice;
       field = refl;
     }

@@ -21,5 +21,5 @@ returns c =
     let used = taken.result.used in
     let all : length (drop used file) ≤ length file - used = omega (arith, length-drop used file) in
     c.report.ensures
-    ∙ ap (λ (t : List ℕ). finish_of (modulus_of a.field) (piece taken.result.stand t)) (take_all (length file - used) (drop used file) all)
-    ∙ whole_file _ file start.result start.ensures.progress taken.result.stand used taken.ensures
+    ∙ ap (λ (t : List ℕ). finish_of (modulus_of a.field) (piece taken.result.known t)) (take_all (length file - used) (drop used file) all)
+    ∙ whole_file _ file start.result start.ensures.progress taken.result.known used taken.ensures

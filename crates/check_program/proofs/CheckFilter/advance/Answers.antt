@@ -14,7 +14,7 @@ returns c = λ bytes h within.
     let before = c.args.self.now.progress in
     let after = c.advance-self.result in
     let left = left_by after c.advance-self.new.buf in
-    let lines = subst (λ (k : Modulus). Advanced (line_of (modulus_of k)) before.stand c.args.filled c.args.buf.now left) h.field c.advance-self.ensures.lines in
+    let lines = subst (λ (k : Modulus). Advanced (line_of (modulus_of k)) before.known c.args.filled c.args.buf.now left) h.field c.advance-self.ensures.lines in
     record {
       field = c.advance-self.ensures.field ∙ h.field;
       known = call_reads _ unopened bytes (left_by before c.args.buf.now) c.args.filled left h.known within lines;

@@ -14,7 +14,7 @@ returns c = λ bytes h within.
     let fill = c.args.self.now in
     let before = left_by fill.progress fill.words c.args.buf.now in
     let left = left_by c.advance-self.result c.advance-self.new.words c.advance-self.new.buf in
-    let lines = subst (λ (k : Modulus). Advanced (line_taken (modulus_of k)) (gathered fill.progress.intake fill.words) c.args.filled c.args.buf.now left) h.field c.advance-self.ensures.lines in
+    let lines = subst (λ (k : Modulus). Advanced (line_taken (modulus_of k)) (gathered fill.progress.known fill.words) c.args.filled c.args.buf.now left) h.field c.advance-self.ensures.lines in
     record {
       start = h.start;
       room = h.room;

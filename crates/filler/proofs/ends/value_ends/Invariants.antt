@@ -11,4 +11,4 @@ use Rattle.filler.proofs.ends.value_ends.Given as goal
 
 abbrev pub invariant-loop-i : goal.invariant-loop-i
 invariant-loop-i l =
-    laid l.initial.out 0 (value_ends 0 (values_in l.inits) l.scratch) ≡ laid l.out (7 * l.i) (value_ends l.i (drop l.i (values_in l.inits)) l.scratch)
+    laid l.initial.out 0 (value_ends 0 (values_in l.inits) l.keys) ≡ laid l.out (7 * l.i) (value_ends l.i (drop l.i (values_in l.inits)) l.keys)

@@ -11,7 +11,7 @@ use Rattle.filler.proofs.write.operations.Goals as goal
 
 pub loop-k-init : goal.loop-k-init
 loop-k-init c =
-    let is : width_of c.args.trace.memory c.args.trace.n c.args.trace.t ≡ c.width-w.result = sym c.width-w.ensures in (
+    let is : width_of c.args.trace.memory c.args.trace.n c.args.trace.t ≡ c.args.trace.width = sym c.args.trace.wide in (
       refl,
       subst (λ (w : ℕ). Given w c.args.trace.t c.args.trace.ops.now c.args.out.now) is (given_of_lem c.args.trace.memory c.args.trace.n c.args.trace.t c.args.trace.inits.now c.args.trace.ops.now c.args.out.now c.args.scratch.now c.args.trace.operating c.requires.fillable),
       subst (λ (w : ℕ). Wide c.args.trace.memory w c.args.trace.t c.args.trace.inits.now) is (wide c.args.trace.memory c.args.trace.n c.args.trace.t c.args.trace.inits.now c.args.trace.starting),
@@ -22,7 +22,7 @@ loop-k-init c =
 pub step-at-requires : goal.step-at-requires
 step-at-requires c =
     let inv = c.loop-k.invariant in
-    progress_ready c.args.trace.memory c.width-w.result c.args.trace.t c.args.trace.inits.now c.args.trace.ops.now c.args.out.now inv.1 inv.2 c.loop-k.k c.loop-k.at c.loop-k.out c.loop-k.scratch inv.3 c.loop-k-test.true
+    progress_ready c.args.trace.memory c.args.trace.width c.args.trace.t c.args.trace.inits.now c.args.trace.ops.now c.args.out.now inv.1 inv.2 c.loop-k.k c.loop-k.at c.loop-k.out c.loop-k.scratch inv.3 c.loop-k-test.true
 
 pub loop-k-preserved : goal.loop-k-preserved
 loop-k-preserved c =
@@ -30,13 +30,13 @@ loop-k-preserved c =
       omega arith,
       inv.1,
       inv.2,
-      progress_stepped c.args.trace.memory c.width-w.result c.args.trace.t c.args.trace.inits.now c.args.trace.ops.now c.args.out.now inv.1 inv.2 c.loop-k.k c.loop-k.at c.loop-k.out c.loop-k.scratch inv.3 c.loop-k-test.true _ _ _ c.step-at.ensures.turned c.step-at.ensures.next,
+      progress_stepped c.args.trace.memory c.args.trace.width c.args.trace.t c.args.trace.inits.now c.args.trace.ops.now c.args.out.now inv.1 inv.2 c.loop-k.k c.loop-k.at c.loop-k.out c.loop-k.scratch inv.3 c.loop-k-test.true _ _ _ c.step-at.ensures.turned c.step-at.ensures.next,
     )
 
 pub returns : goal.returns
 returns c =
     let inv = c.loop-k.invariant in
-    let is : c.width-w.result ≡ width_of c.args.trace.memory c.args.trace.n c.args.trace.t = c.width-w.ensures in
+    let is : c.args.trace.width ≡ width_of c.args.trace.memory c.args.trace.n c.args.trace.t = c.args.trace.wide in
     let done : c.loop-k.k ≡ c.args.trace.t = omega arith in
     progress_ended c.args.trace.memory c.args.trace.n c.args.trace.t c.args.trace.inits.now c.args.trace.ops.now c.args.out.now
     (subst (λ (w : ℕ). Given w c.args.trace.t c.args.trace.ops.now c.args.out.now) is inv.1)
@@ -45,4 +45,4 @@ returns c =
     c.loop-k.out
     c.loop-k.scratch
     (subst (λ (w : ℕ). Progress c.args.trace.memory w c.args.trace.t c.args.trace.inits.now c.args.trace.ops.now c.args.out.now c.args.trace.t c.loop-k.at c.loop-k.out c.loop-k.scratch) is
-    (subst (λ (k : ℕ). Progress c.args.trace.memory c.width-w.result c.args.trace.t c.args.trace.inits.now c.args.trace.ops.now c.args.out.now k c.loop-k.at c.loop-k.out c.loop-k.scratch) done inv.3))
+    (subst (λ (k : ℕ). Progress c.args.trace.memory c.args.trace.width c.args.trace.t c.args.trace.inits.now c.args.trace.ops.now c.args.out.now k c.loop-k.at c.loop-k.out c.loop-k.scratch) done inv.3))

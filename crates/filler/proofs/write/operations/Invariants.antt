@@ -9,4 +9,4 @@ use Rattle.filler.proofs.write.operations.Given as goal
 
 abbrev pub invariant-loop-k : goal.invariant-loop-k
 invariant-loop-k l =
-    (length l.scratch ≡ length l.initial.scratch) × Given l.w l.trace.t l.trace.ops.now l.initial.out × Wide l.trace.memory l.w l.trace.t l.trace.inits.now × Progress l.trace.memory l.w l.trace.t l.trace.inits.now l.trace.ops.now l.initial.out l.k l.at l.out l.scratch
+    (length l.scratch ≡ length l.initial.scratch) × Given l.trace.width l.trace.t l.trace.ops.now l.initial.out × Wide l.trace.memory l.trace.width l.trace.t l.trace.inits.now × Progress l.trace.memory l.trace.width l.trace.t l.trace.inits.now l.trace.ops.now l.initial.out l.k l.at l.out l.scratch
