@@ -1,5 +1,5 @@
--- What is shown of the contracts' definitions: types only. First of every reader and writer, then where
--- their bytes are known. Each is proved in the file and by the name in brackets.
+-- What is shown of the contracts' definitions: types only. First of every reader and writer, then
+-- where their bytes are known. Each is proved in the file and by the name in brackets.
 -- Assumes nothing.
 use Rattle.std.specs.Prelude.{ℕ, ◌+◌, ◌≤◌, ◌<◌, ◌≡◌, List, [], ◌++◌, length, take, slice_range, None, Some, Ok, Err}
 use Rattle.std.specs.declared.io.Error.{Error}
@@ -8,9 +8,9 @@ use Rattle.stdio.specs.declared.Failure.TheVariants.{NoRoom, Read, Endless, Shor
 use Rattle.stdio.specs.Read.{Outcome, Brings, ReadBehind}
 use Rattle.stdio.specs.Write.{Takes, WriteFirst}
 
--- A read leaves the buffer as long as it was, and its kept bytes as they were. What it answers: from one
--- byte to 64 KiB came, and stand in the buffer; or none, and a byte had room; or nothing was read, as no
--- byte had room; or the read failed, and a byte had room. It fails in no other way.
+-- A read leaves the buffer as long as it was, and its kept bytes as they were. What it answers:
+-- from one byte to 64 KiB came, and stand in the buffer; or none, and a byte had room; or nothing
+-- was read, as no byte had room; or the read failed, and a byte had room. It fails in no other way.
 -- (Known: read_answers)
 abbrev pub ReadAnswers : Type 0
 ReadAnswers =
@@ -24,8 +24,8 @@ ReadAnswers =
     × (ReadBehind kept before after (Err Short) → ⊥)
     × ((e : Error) → ReadBehind kept before after (Err (Write e)) → ⊥)
 
--- A write answers that it is whole or that it failed only of a text that has the bytes, and that the
--- text is too short only of one that has not. It fails in no other way.
+-- A write answers that it is whole or that it failed only of a text that has the bytes, and that
+-- the text is too short only of one that has not. It fails in no other way.
 -- (Known: write_answers)
 abbrev pub WriteAnswers : Type 0
 WriteAnswers =
@@ -38,7 +38,8 @@ WriteAnswers =
     × (WriteFirst size n (Err Endless) → ⊥)
 
 -- Of the bytes that a reader has left: those that came are the first of them, and stand behind the
--- kept ones, up to where the buffer is filled; at the end there were none; a failed read takes none.
+-- kept ones, up to where the buffer is filled; at the end there were none; a failed read takes
+-- none.
 -- (Known: known_read)
 abbrev pub KnownRead : Type 0
 KnownRead =
@@ -47,8 +48,8 @@ KnownRead =
     × (Brings kept (Some old) (Some new) after (Ok None) → (old ≡ []) × (new ≡ []))
     × ((e : Failure) → Brings kept (Some old) (Some new) after (Err e) → new ≡ old)
 
--- Of the bytes that a writer has: none more of a text that is too short; the first n of the text, of
--- a whole write; and of a failed one fewer of these, from their front. (Known: known_write)
+-- Of the bytes that a writer has: none more of a text that is too short; the first n of the text,
+-- of a whole write; and of a failed one fewer of these, from their front. (Known: known_write)
 abbrev pub KnownWrite : Type 0
 KnownWrite =
     (n : ℕ) (old new text : List ℕ)
