@@ -4,7 +4,6 @@ ghost use Rattle.field.specs.Moduli.{modulus_of};
 ghost use Rattle.memory.specs.Step.{refuse_next, with_context, take_row};
 
 use field::moduli::Modulus;
-use memory::faults::number;
 use memory::{Row, State};
 
 // A refusal on the line of the next row, by a number, as in a state.
@@ -22,11 +21,11 @@ pub(crate) fn take_row(k: Modulus, s: State, row: Row) -> State
     ensures { result ≡ take_row (modulus_of k) s row }
 {
     let judged = passing::judge(k, s.context, row);
-    let Ok(context) = judged else {
-        return refuse(s, number(&judged));
-    };
+    if let Err(fault) = judged.fault {
+        return refuse(s, u32::from(fault));
+    }
     State {
-        context,
+        context: judged.next,
         products: factors::multiply(k, s.challenge, s.context, row, s.products),
         ..s
     }

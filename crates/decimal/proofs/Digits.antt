@@ -8,7 +8,7 @@ use Rattle.decimal.specs.Numbers.{most, run, digits_of}
 
 -- A byte less 48, modulo 256: at most 9 at a digit alone, and then its number
 module _ (b : ℕ) (byte : b < 256) where
-  digit_other : 9 < (b + 208) % 256 → digit b ≡ false
+  pub digit_other : 9 < (b + 208) % 256 → digit b ≡ false
   unfolding digit
   digit_other above = by (leb 48 b) (leb b 57) refl refl
     where
@@ -17,10 +17,10 @@ module _ (b : ℕ) (byte : b < 256) where
       by true false e f = refl
       by false high e f = refl
 
-  digit_number : (b + 208) % 256 ≤ 9 → (b + 208) % 256 ≡ b - 48
+  pub digit_number : (b + 208) % 256 ≤ 9 → (b + 208) % 256 ≡ b - 48
   digit_number few = omega arith
 
-  digit_is : (b + 208) % 256 ≤ 9 → digit b ≡ true
+  pub digit_is : (b + 208) % 256 ≤ 9 → digit b ≡ true
   unfolding digit
   digit_is few = simp (le-leb 48 b (omega arith), le-leb b 57 (omega arith))
 

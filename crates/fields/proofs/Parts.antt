@@ -44,7 +44,7 @@ is_true false e = sym e
 
 -- what an answer says, by whether there is one and by its test
 module _ (q : ℕ) (ns : List ℕ) (k : ℕ) (line : Line) (found : Option Found) (says : taken_of ns found ≡ fields_taken q k line) where
-  says_unread : found ≡ None → keyed_of ns (Err Unreadable) ≡ by_key (fields_of q (suc k) line)
+  pub says_unread : found ≡ None → keyed_of ns (Err Unreadable) ≡ by_key (fields_of q (suc k) line)
   unfolding taken_of on_taken keyed_of
   says_unread e = ap on_taken (rw e at says) ∙ taken_is_fields q k line
 

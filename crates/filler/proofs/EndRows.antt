@@ -93,7 +93,7 @@ unfolding cell_ends
 cells_count inits ops j zero s = refl
 cells_count inits ops j (suc c) s = ap suc (cells_count inits ops (suc j) c s)
 
-ranges_count : (j t : ℕ) (s : List ℕ) → length (ranges j t s) ≡ t
+pub ranges_count : (j t : ℕ) (s : List ℕ) → length (ranges j t s) ≡ t
 unfolding ranges
 ranges_count j zero s = refl
 ranges_count j (suc t) s = ap suc (ranges_count (suc j) t s)
@@ -101,7 +101,7 @@ ranges_count j (suc t) s = ap suc (ranges_count (suc j) t s)
 pub more_count : (inits ops : List ℕ) (j c w t : ℕ) (s : List ℕ) → length (cell_ends inits ops j c s ++ ranges w t s) ≡ length (cell_ends inits ops j c s) + t
 more_count inits ops j c w t s = omega (arith, length-append (cell_ends inits ops j c s) (ranges w t s), ranges_count w t s)
 
-values_ends_each : (j : ℕ) (vs s : List ℕ) → length (value_ends j vs s) ≡ length vs
+pub values_ends_each : (j : ℕ) (vs s : List ℕ) → length (value_ends j vs s) ≡ length vs
 unfolding value_ends
 values_ends_each j [] s = refl
 values_ends_each j (v ∷ vs) s = ap suc (values_ends_each (suc j) vs s)

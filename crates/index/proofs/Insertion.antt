@@ -28,7 +28,7 @@ grown_done values links n k h = let none : n - k ≡ 0 = omega arith in ap (λ (
 
 -- what a search answers
 module _ (values links : List ℕ) (x : ℕ) (s : Stop) (ends : s ≡ stop_of x values links) where
-  found_as : found x values links ≡ cond (eqb (get_or values s.node 0) x) s.node (length values)
+  pub found_as : found x values links ≡ cond (eqb (get_or values s.node 0) x) s.node (length values)
   unfolding found
   found_as = λ i. cond (eqb (get_or values (sym ends i).node 0) x) (sym ends i).node (length values)
 

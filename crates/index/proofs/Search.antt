@@ -31,7 +31,7 @@ use Rattle.index.proofs.Sides.{side_put, side_kept, side_none, side_same}
 -- ---- a child
 
 -- by the child in the node's word
-child_is : (n : ℕ) (links : List ℕ) (node key c : ℕ) → side_of key (get_or links node 0) ≡ c → node < c → c < n → child_at n links node key ≡ c
+pub child_is : (n : ℕ) (links : List ℕ) (node key c : ℕ) → side_of key (get_or links node 0) ≡ c → node < c → c < n → child_at n links node key ≡ c
 unfolding child_at
 child_is n links node key c e above below =
     ap (λ (x : ℕ). cond (ltb node x && ltb x n) x 0) e
@@ -42,7 +42,7 @@ child_as : (n : ℕ) (links links' : List ℕ) (node key key' : ℕ) → side_of
 unfolding child_at
 child_as n links links' node key key' e = ap (λ (x : ℕ). cond (ltb node x && ltb x n) x 0) e
 
-child_range : (n : ℕ) (links : List ℕ) (node key : ℕ) → (child_at n links node key ≡ 0 → ⊥) → (node < child_at n links node key) × (child_at n links node key < n)
+pub child_range : (n : ℕ) (links : List ℕ) (node key : ℕ) → (child_at n links node key ≡ 0 → ⊥) → (node < child_at n links node key) × (child_at n links node key < n)
 unfolding child_at
 child_range n links node key = go (ltb node c) (ltb c n) refl refl
   where
@@ -80,13 +80,13 @@ module _ (values links : List ℕ) (x : ℕ) where
   abbrev next : ℕ → ℕ → ℕ
   next node key = child_at (length values) links node key
 
-  walked_met : (f key node : ℕ) → get_or values node 0 ≡ x → walked f values links x key node ≡ stop_at node key
+  pub walked_met : (f key node : ℕ) → get_or values node 0 ≡ x → walked f values links x key node ≡ stop_at node key
   unfolding walked
   walked_met zero key node e = refl
   walked_met (suc f) key node e =
       ap (λ (b : Bool). cond b (stop_at node key) (cond (eqb (next node key) 0) (stop_at node key) (walked f values links x (key / 2) (next node key)))) (eq-eqb _ _ e)
 
-  walked_end : (f key node : ℕ) → next node key ≡ 0 → walked f values links x key node ≡ stop_at node key
+  pub walked_end : (f key node : ℕ) → next node key ≡ 0 → walked f values links x key node ≡ stop_at node key
   unfolding walked
   walked_end zero key node e = refl
   walked_end (suc f) key node e =
@@ -97,14 +97,14 @@ module _ (values links : List ℕ) (x : ℕ) where
       both true = refl
       both false = refl
 
-  walked_on : (f key node : ℕ) → (get_or values node 0 ≡ x → ⊥) → (next node key ≡ 0 → ⊥) → walked (suc f) values links x key node ≡ walked f values links x (key / 2) (next node key)
+  pub walked_on : (f key node : ℕ) → (get_or values node 0 ≡ x → ⊥) → (next node key ≡ 0 → ⊥) → walked (suc f) values links x key node ≡ walked f values links x (key / 2) (next node key)
   unfolding walked
   walked_on f key node n m =
       ap (λ (b : Bool). cond b (stop_at node key) (cond (eqb (next node key) 0) (stop_at node key) (walked f values links x (key / 2) (next node key)))) (ne_eqb _ _ n)
       ∙ ap (λ (b : Bool). cond b (stop_at node key) (walked f values links x (key / 2) (next node key))) (ne_eqb _ _ m)
 
   -- a property of every node on the way
-  stop_low : (k : ℕ) → ((node key : ℕ) → next node key < k) → (f key node : ℕ) → node < k → (walked f values links x key node).node < k
+  pub stop_low : (k : ℕ) → ((node key : ℕ) → next node key < k) → (f key node : ℕ) → node < k → (walked f values links x key node).node < k
   unfolding walked stop_at
   stop_low k bound zero key node h = h
   stop_low k bound (suc f) key node h = go (eqb (get_or values node 0) x) (eqb (next node key) 0) (stop_low k bound f (key / 2) (next node key) (bound node key))
@@ -115,7 +115,7 @@ module _ (values links : List ℕ) (x : ℕ) where
       go false true ih = h
       go false false ih = ih
 
-  stop_none : (f key node : ℕ) → node < length values → length values ≤ f + node
+  pub stop_none : (f key node : ℕ) → node < length values → length values ≤ f + node
       → let s = walked f values links x key node in (get_or values s.node 0 ≡ x → ⊥) → next s.node s.key ≡ 0
   unfolding stop_at
   stop_none zero key node low fuel = absurd (omega arith)

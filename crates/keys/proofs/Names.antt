@@ -83,7 +83,7 @@ module _ {text : List ℕ} {stop key i : ℕ} (naming : Naming text stop key i) 
       }
 
   -- where no byte of the name is left it is made
-  naming_done : (next : ℕ) → stop ≤ 7 → next ≡ i → first (drop i text) ≡ [] → record { key = key; next = next } ≡ name_of (first text)
+  pub naming_done : (next : ℕ) → stop ≤ 7 → next ≡ i → first (drop i text) ≡ [] → record { key = key; next = next } ≡ name_of (first text)
   unfolding key_from key_of name_of longest_name
   naming_done next short here none =
       ap₂ (λ (k n : ℕ). record { key = k; next = n }) (made ∙ rw (le-leb (length (first text)) 7 (omega (arith, ends)))) ends

@@ -2,7 +2,7 @@
 // gates; and the fault of a row.
 #![tactic(auto)]
 
-ghost use Rattle.std.specs.Prelude.{◌≡◌, ◌&&◌, ◌+◌, eqb, leb, IfOk};
+ghost use Rattle.std.specs.Prelude.{◌≡◌, ◌&&◌, ◌+◌, eqb, leb};
 ghost use Rattle.algebra.specs.Modulo.{times};
 ghost use Rattle.field.specs.Moduli.{modulus_of};
 ghost use Rattle.memory.specs.Rows.{raise_by, lower_by, depth_factor};
@@ -13,6 +13,13 @@ use field::moduli::Modulus;
 use memory::faults::Fault;
 use memory::{Context, Memory, Op, Row};
 use rules::{columns, counters};
+
+// What becomes of a row: its fault, and the context after it.
+#[derive(Clone, Copy)]
+pub struct Judged {
+    pub fault: Result<(), Fault>,
+    pub next: Context,
+}
 
 // By how much a row raises the depth: "Push adds guard to depth", "Enqueue adds guard to depth".
 #[tactic(auto, unfolding(memory::specs::Rows::raise_by, memory::specs::Names::is_op, memory::specs::Names::op_code))]
@@ -108,12 +115,14 @@ fn fault(k: Modulus, c: Context, row: Row, next: Context) -> Result<(), Fault>
     Ok(())
 }
 
-// The next row: the context after it, or its fault.
-pub fn judge(k: Modulus, c: Context, row: Row) -> Result<Context, Fault>
-    ensures fault { fault_of result ≡ step_fault (modulus_of k) c row }
-    ensures next { IfOk result (λ next. next ≡ pass (modulus_of k) c row) }
+// The next row: its fault, and the context after it, which a row with a fault has too.
+pub fn judge(k: Modulus, c: Context, row: Row) -> Judged
+    ensures fault { fault_of result.fault ≡ step_fault (modulus_of k) c row }
+    ensures next { result.next ≡ pass (modulus_of k) c row }
 {
     let next = pass(k, c, row);
-    fault(k, c, row, next)?;
-    Ok(next)
+    Judged {
+        fault: fault(k, c, row, next),
+        next,
+    }
 }

@@ -11,29 +11,38 @@ ghost use Rattle.stdio.specs.Write.{IsPartly, Takes, WriteFirst};
 
 pub mod filter;
 
-use std::io;
-use thiserror::Error;
+use std::error::Error;
+use std::{fmt, io};
 
 // A program reads its input in blocks of 64 KiB.
 pub const BLOCK: usize = 65536;
 
 // Why the input is not read to its end, or the output not all written.
-#[derive(Debug, Drop, Error)]
+#[derive(Clone, Copy, Debug)]
 pub enum Failure {
     // Behind the kept bytes the buffer has no room: nothing is read.
-    #[error("standard input: no room in the buffer")]
     NoRoom,
-    #[error("standard input: {0}")]
     Read(io::Error),
     // The input has not ended after more reads than any run makes.
-    #[error("standard input: it does not end")]
     Endless,
     // The text is shorter than it should be: nothing is written.
-    #[error("standard output: the text is too short")]
     Short,
-    #[error("standard output: {0}")]
     Write(io::Error),
 }
+
+impl fmt::Display for Failure {
+    fn fmt<W: fmt::Write>(&self, f: &mut fmt::Formatter<W>) -> fmt::Result {
+        match self {
+            Failure::NoRoom => write!(f, "standard input: no room in the buffer"),
+            Failure::Read(e) => write!(f, "standard input: {e}"),
+            Failure::Endless => write!(f, "standard input: it does not end"),
+            Failure::Short => write!(f, "standard output: the text is too short"),
+            Failure::Write(e) => write!(f, "standard output: {e}"),
+        }
+    }
+}
+
+impl Error for Failure {}
 
 // Reads once, a block at most, behind the kept bytes at the front of the buffer, and answers up to
 // where the buffer is filled. A read of no bytes is the end of input: there is none. Where the

@@ -8,9 +8,14 @@ ghost use Rattle.std.specs.Prelude.{◌≡◌, length};
 ghost use Rattle.memory.specs.Print.{number_text};
 ghost use Rattle.text.specs.Put.{put_of, written};
 
-use itoa::Buffer;
+// The byte of the digit 0, and the most digits of a u64.
+const ZERO: u8 = 48;
 
-// Puts bytes.
+const MOST: usize = 20;
+
+// Puts bytes. What fits whole is copied by its own length: of a comma the compiler knows that, and
+// stores one byte. By one copy, of the lesser of length and room, a printed row takes three times
+// as long.
 #[tactic(auto, unfolding(crate::specs::Put::put_of, crate::specs::Put::written))]
 pub fn bytes(buf: &mut [u8], at: usize, text: &[u8]) -> Option<usize>
     ensures answer { result ≡ put_of (length buf.old) at text.now }
@@ -19,20 +24,30 @@ pub fn bytes(buf: &mut [u8], at: usize, text: &[u8]) -> Option<usize>
     if buf.len() < at {
         return None;
     }
-    let fitting = text.len().min(buf.len() - at);
-    buf[at..at + fitting].copy_from_slice(&text[..fitting]);
-    if fitting < text.len() {
+    let room = buf.len() - at;
+    if room < text.len() {
+        buf[at..].copy_from_slice(&text[..room]);
         return None;
     }
-    Some(at + fitting)
+    let end = at + text.len();
+    buf[at..end].copy_from_slice(text);
+    Some(end)
 }
 
 // Puts a number in decimal, without leading zeros.
-#[tactic(auto, using(crate::proofs::Digits::number_decimal, crate::proofs::Written::puts))]
+#[tactic(auto, using(crate::proofs::Digits::laid_room))]
 pub fn number(buf: &mut [u8], at: usize, n: u64) -> Option<usize>
     ensures answer { result ≡ put_of (length buf.old) at (number_text n) }
     ensures slice { buf.new ≡ written buf.old at (number_text n) }
 {
-    let mut digits = Buffer::new();
-    bytes(buf, at, digits.format(n).as_bytes())
+    let mut digits = [0u8; MOST];
+    let mut first = MOST - 1;
+    let mut left = n;
+    while 9 < left {
+        digits[first] = ZERO + (left % 10) as u8;
+        left = left / 10;
+        first -= 1;
+    }
+    digits[first] = ZERO + left as u8;
+    bytes(buf, at, &digits[first..])
 }

@@ -93,10 +93,19 @@ pub struct Advice {
     pub version: u64,
 }
 
-// Reads input row k.
+// Reads input row k. A whole row takes one test.
 pub fn read(rows: &[u64], k: usize) -> Input
     ensures { result ≡ words_at rows.now k }
 {
+    if k < rows.len() / 4 {
+        let at = 4 * k;
+        return Input {
+            op: rows[at],
+            guard: rows[at + 1],
+            addr: rows[at + 2],
+            value: rows[at + 3],
+        };
+    }
     let at = 4 * k.min(rows.len());
     Input {
         op: word(rows, at),
